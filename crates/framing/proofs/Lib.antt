@@ -1,0 +1,17 @@
+-- `Matcher` and `Borders` carry the code's matching and `Call` the cases of one call; `GoesOn`, `Stored` and `Handed` say what the held match, the store
+-- and an item mean for the bytes gathered. The theorems of specs/Promises and specs/Refusals stand in `Refusals`, `Cuts`, `Link`, `Places`, `OwnNumbers`,
+-- `OneCall`, `Stream` and `OneAnswer`.
+mod Matcher
+mod Borders
+mod Call
+mod GoesOn
+mod Stored
+mod Handed
+pub mod Refusals
+pub mod Cuts
+pub mod Link
+pub mod Places
+pub mod OwnNumbers
+pub mod OneCall
+pub mod Stream
+pub mod OneAnswer

@@ -1,0 +1,20 @@
+-- Tests, as values of Bool: two that follow from each other are the same, one that cannot pass fails, and none does both. Assumes nothing.
+use mathlib.Core.Path.{_≡_, refl, sym, _∙_}
+use mathlib.Core.Bool.{Bool, true, false}
+use Prim.Native.Nat.{ℕ}
+use native.Mathlib.Omega.{arith}
+
+pub iff-same : (a b : Bool) → (a ≡ true → b ≡ true) → (b ≡ true → a ≡ true) → a ≡ b
+iff-same true b f g = sym (f refl)
+iff-same false true f g = g refl
+iff-same false false f g = refl
+
+pub never : (a : Bool) → (a ≡ true → ⊥) → a ≡ false
+never true f = absurd (f refl)
+never false f = refl
+
+pub true-false : {a : Bool} → a ≡ true → a ≡ false → ⊥
+true-false p q = let z : _≡_ {A = ℕ} 0 1 = clash (sym p ∙ q) in omega arith
+  where
+    clash : true ≡ false → _≡_ {A = ℕ} 0 1
+    clash e = cc

@@ -1,0 +1,4 @@
+-- `Lists` says what becomes of the list that C lends, `Gather` what `ali_gather` returns and leaves, `Refusals` when it is refused.
+pub mod Lists
+pub mod Gather
+pub mod Refusals

@@ -1,0 +1,17 @@
+// The answer list that C lends: an answer's numbers go to its start.
+ghost use mathlib.Core.Path.{_≡_};
+ghost use Prim.Native.Nat.{_≤_};
+ghost use lib.ListN.{length};
+ghost use Rattle.line.specs.Lists.{written};
+
+// Writes `numbers` to the start of `list`.
+pub(crate) fn write(list: &mut [u64], numbers: &[u64])
+    requires { ⌜ length (now numbers) ≤ length (now list) ⌝ }
+    ensures { λ _. ⌜ now (list .exit) ≡ written (now (numbers .entry)) (now (list .entry)) ⌝ }
+{
+    let mut i = 0;
+    while i < numbers.len() {
+        list[i] = numbers[i];
+        i += 1;
+    }
+}

@@ -1,0 +1,76 @@
+#!/usr/bin/env python3
+"""Checks what the documents cite: every link leads to a file, and a link whose text is a name leads to a file that has the name.
+
+Also that docs/DEMANDS.md leaves nothing out: each must-fail edit and each statement of a crate's specs/Promises.antt is cited there.
+The last line is 'N passed, M failed'; the exit status is 0 only if nothing failed.
+"""
+import glob
+import os
+import re
+import sys
+
+TOP = os.path.dirname(os.path.dirname(os.path.abspath(__file__)))
+LINK = re.compile(r"\[([^\]]*)\]\(([^)\s]+)\)")
+NAME = re.compile(r"`([^`\s]+)`$")
+STATEMENT = re.compile(r"^abbrev pub (\w+) : Type 0$", re.MULTILINE)
+
+
+def read(path):
+    with open(path, encoding="utf-8") as file:
+        return file.read()
+
+
+def documents():
+    found = [os.path.join(TOP, "README.md")]
+    for folder in ("docs", "bench"):
+        found += glob.glob(os.path.join(TOP, folder, "**", "*.md"), recursive=True)
+    return sorted(found)
+
+
+def has_name(path, name):
+    if os.path.splitext(os.path.basename(path))[0] == name:
+        return True
+    return re.search(r"(?<![\w-])" + re.escape(name) + r"(?![\w-])", read(path)) is not None
+
+
+def fault_of_link(document, text, target):
+    path = os.path.normpath(os.path.join(os.path.dirname(document), target))
+    if not os.path.exists(path):
+        return "there is no " + target
+    name = NAME.match(text)
+    if name and os.path.isfile(path) and not has_name(path, name.group(1)):
+        return "%s has no %s" % (target, name.group(1))
+    return None
+
+
+def faults_of_links():
+    for document in documents():
+        for text, target in LINK.findall(read(document)):
+            if not re.match(r"[a-z]+:|#", target):
+                yield os.path.relpath(document, TOP), fault_of_link(document, text, target)
+
+
+def faults_of_omission():
+    demands = read(os.path.join(TOP, "docs", "DEMANDS.md"))
+    edits = glob.glob(os.path.join(TOP, "crates", "*", "must-fail", "*.edit"))
+    for edit in sorted(edits):
+        cited = os.path.relpath(edit, TOP)
+        yield "docs/DEMANDS.md", None if cited in demands else "does not cite " + cited
+    for promises in sorted(glob.glob(os.path.join(TOP, "crates", "*", "specs", "Promises.antt"))):
+        for statement in STATEMENT.findall(read(promises)):
+            yield "docs/DEMANDS.md", None if "`%s`" % statement in demands else "does not cite " + statement
+
+
+def main():
+    passed = failed = 0
+    for document, fault in [*faults_of_links(), *faults_of_omission()]:
+        if fault is None:
+            passed += 1
+        else:
+            failed += 1
+            print("FAILED %s: %s" % (document, fault))
+    print("%d passed, %d failed" % (passed, failed))
+    return 1 if failed or not passed else 0
+
+
+sys.exit(main())
