@@ -18,7 +18,7 @@ use Rattle.laws.proofs.Search.{least-is, least-none, greatest-is, greatest-same
 use Rattle.laws.specs.Bytes.{Ends, endsWith}
 use Rattle.laws.proofs.Tails.{ends-of-test, test-of-ends, too-long, ends-self, ends-nil, ends-trans, ends-within, ends-snoc, ends-unsnoc}
 
--- what is longestMatch is a tail, below the bound, and no shorter than any other
+-- the longest match is a tail, below the bound, and no shorter than any other
 pub longest-ends : (n : ℕ) (b w : List ℕ) → Ends (take (longestMatch n b w) b) w
 unfolding longestMatch
 longest-ends n b w = ends-of-test _ w (greatest-passes (λ j. endsWith (take j b) w) n (test-of-ends [] w (ends-nil w)))

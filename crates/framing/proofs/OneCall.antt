@@ -42,6 +42,18 @@ tail-below b w j free tail = go (leb (length b) j) refl
 pub match-below : (limit : ℕ) (b w : List ℕ) (h : Held) → Right limit b w h → h .matched < length b
 match-below limit b w h right = tail-below b w (h .matched) (right .free) (right .tail)
 
+-- two numbers that are 0 are right where nothing is gathered
+pub nothing-gathered : (limit : ℕ) (b : List ℕ) (h : Held) → Lent limit b (h .store) → h .gathered ≡ 0 → h .matched ≡ 0 → Right limit b [] h
+nothing-gathered limit b h lent no-count no-match =
+    record {
+      lent = lent;
+      free = λ x y e. omega (arith, lent .some, ap length e, length-append x (b ++ y), length-append b y);
+      count = no-count;
+      tail = rw no-match (ends-nil []);
+      longest = λ j within e. omega (arith, ends-shorter (take j b) [] e, length-take j b);
+      stored = rw (take-nil (limit + length b));
+    }
+
 module _ (limit : ℕ) (b w : List ℕ) (h : Held) (p : List ℕ) (right : Right limit b w h) where
   abbrev k : ℕ
   k = length b
@@ -203,15 +215,7 @@ module _ (limit : ℕ) (b w : List ℕ) (h : Held) (p : List ℕ) (right : Right
     no-match = ap (λ (a : Answer). a .matched) answer-item
 
     anew : Right limit b [] (heldAfter limit b h p)
-    anew =
-        record {
-          lent = still-lent;
-          free = λ x y e. omega (arith, right .lent .some, ap length e, length-append x (b ++ y), length-append b y);
-          count = no-count;
-          tail = rw no-match (ends-nil []);
-          longest = λ j within e. omega (arith, ends-shorter (take j b) [] e, length-take j b);
-          stored = rw (take-nil (limit + k));
-        }
+    anew = nothing-gathered limit b (heldAfter limit b h p) still-lent no-count no-match
 
   -- NO ITEM ENDS IN THE PIECE
   module _ (past : length (w ++ p) < itemEnd b (w ++ p)) where

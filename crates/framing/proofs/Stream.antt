@@ -4,28 +4,19 @@ use mathlib.Core.Path.{_≡_, refl, sym, ap, _∙_}
 use mathlib.Core.List.{List, [], _∷_, _++_, append-assoc, append-nil}
 use Prim.Native.Nat.{ℕ, zero, suc, _+_, _-_, _≤_, _<_}
 use native.Mathlib.Omega.{arith}
-use lib.ListN.{length, take, drop, length-append, length-take, length-drop, take-append-drop}
-use lib.Seq.{take-nil, take-take}
-use Rattle.laws.proofs.Tails.{ends-nil, ends-shorter}
+use lib.ListN.{length, take, drop, length-take, length-drop, take-append-drop}
+use lib.Seq.{take-take}
 use Rattle.framing.specs.declared.Item.{Item}
 use Rattle.framing.specs.declared.Item.the-variants.{NotYet}
 use Rattle.framing.specs.Cutting.{itemNumber}
 use Rattle.framing.specs.Stream.{joined, Part, StreamItem, itemOfPart, itemsOfParts, Held, fresh, answerTo, heldAfter, Handed, an-empty, a-message, too-long, Calls, over, used, cut, Lent, Right}
 use Rattle.framing.specs.Promises.{gatheredNow, Outcome, waits, completes, CallRight, CallsGoOn, Delivers, ItemsOfTheStream, SameHeld, PiecesDoNotMatter}
 use Rattle.framing.proofs.Cuts.{cut-once}
-use Rattle.framing.proofs.OneCall.{every-call-right, match-below}
+use Rattle.framing.proofs.OneCall.{every-call-right, match-below, nothing-gathered}
 
 -- before the first call nothing is gathered
 fresh-right : (limit : ℕ) (b s : List ℕ) → Lent limit b s → Right limit b [] (fresh s)
-fresh-right limit b s lent =
-    record {
-      lent = lent;
-      free = λ x y e. omega (arith, lent .some, ap length e, length-append x (b ++ y), length-append b y);
-      count = refl;
-      tail = ends-nil [];
-      longest = λ j within e. omega (arith, ends-shorter (take j b) [] e, length-take j b);
-      stored = rw (take-nil (limit + length b));
-    }
+fresh-right limit b s lent = nothing-gathered limit b (fresh s) lent refl refl
 
 -- an item is handed over as one thing only, and where there is none yet nothing is
 no-item : {item : Item} {s : List ℕ} {i : StreamItem} → Handed item s i → item ≡ NotYet → ⊥

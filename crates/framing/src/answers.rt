@@ -2,6 +2,8 @@
 use crate::Answer;
 use crate::Cut;
 use crate::Item;
+use crate::MOST_BOUNDARY;
+use crate::MOST_COUNT;
 ghost use mathlib.Core.Path.{_≡_};
 ghost use mathlib.Core.Bool.{true};
 ghost use Prim.Native.Nat.{_+_, _≤_};
@@ -14,10 +16,10 @@ pub(crate) fn refusal(limit: u32, size: usize, room: usize, gathered: u32, match
     if size < 1 {
         return 1;
     }
-    if 16 < size {
+    if MOST_BOUNDARY < size {
         return 1;
     }
-    if room < limit as usize + 16 {
+    if room < limit as usize + MOST_BOUNDARY {
         return 2;
     }
     if size <= matched as usize {
@@ -45,9 +47,9 @@ pub(crate) fn refused(refusal: u32, gathered: u32, matched: u32) -> Answer
 fn count(gathered: u32, taken: usize) -> u32
     ensures { λ r. ⌜ r ≡ countAfter gathered taken ⌝ }
 {
-    let left = 4294967295 - gathered;
+    let left = MOST_COUNT - gathered;
     if left as usize <= taken {
-        return 4294967295;
+        return MOST_COUNT;
     }
     gathered + taken as u32
 }

@@ -7,8 +7,13 @@ mod store;
 ghost use mathlib.Core.Path.{_≡_};
 ghost use Rattle.framing.specs.Cutting.{linkLimit, itemNumber, itemLength, answerOf, storeAfter};
 
-// The longest message of the link. A message and its boundary fill at most LINK_LIMIT + 16 bytes of the store.
+// The longest message of the link, the longest boundary, and the largest count. A message and its boundary fill at most
+// LINK_LIMIT + MOST_BOUNDARY bytes of the store.
 const LINK_LIMIT: u32 = 65520;
+
+const MOST_BOUNDARY: usize = 16;
+
+const MOST_COUNT: u32 = 4294967295;
 
 // What a call completed.
 pub enum Item {
@@ -61,10 +66,10 @@ pub struct Answer {
 }
 
 // How a piece is cut: whether an item ends in it, how many of its bytes are taken, and how much of the boundary is matched after them.
-pub struct Cut {
-    pub ended: bool,
-    pub taken: usize,
-    pub matched: usize,
+pub(crate) struct Cut {
+    pub(crate) ended: bool,
+    pub(crate) taken: usize,
+    pub(crate) matched: usize,
 }
 
 // Takes bytes of `piece` until one item is complete or the piece is used up. `gathered` and `matched` are both 0 at first, and

@@ -18,7 +18,7 @@ pub extern "C" fn ali_gather(
     ensures { λ _. ⌜ now (store .exit) ≡ gatherStore (now (boundary .entry)) (now (store .entry)) (now (piece .entry)) gathered matched (now (answer .entry)) ⌝ }
     ensures { λ _. ⌜ now (answer .exit) ≡ gatherList (now (boundary .entry)) (now (store .entry)) (now (piece .entry)) gathered matched (now (answer .entry)) ⌝ }
 {
-    if answer.len() < 40 {
+    if answer.len() < lists::PLACES {
         return 3;
     }
     let said = framing::gather(boundary, store, piece, gathered, matched);

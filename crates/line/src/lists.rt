@@ -4,6 +4,9 @@ ghost use Prim.Native.Nat.{_≤_};
 ghost use lib.ListN.{length};
 ghost use Rattle.line.specs.Lists.{written};
 
+// The places that a list needs to have.
+pub(crate) const PLACES: usize = 40;
+
 // Writes `numbers` to the start of `list`.
 pub(crate) fn write(list: &mut [u64], numbers: &[u64])
     requires { ⌜ length (now numbers) ≤ length (now list) ⌝ }
