@@ -12,7 +12,7 @@ use Rattle.framing.specs.Stream.{message, itemOfPart}
 use Rattle.framing.specs.Promises.{LinkLent, LinkItems}
 
 pub link-lent : LinkLent
-link-lent b s some few roomy = record { some = some; few = few; roomy = roomy; countable = omega arith }
+link-lent b s some few roomy = record { some = some; few = few; roomy = omega arith; countable = omega arith }
 
 pub link-items : LinkItems
 unfolding itemOfPart

@@ -206,13 +206,15 @@ module _ (limit : ℕ) (b w : List ℕ) (h : Held) (p : List ℕ) (right : Right
         rw (ap (λ (a : Answer). a .item) answer-item, count-is)
         (handed-part limit b (gatheredNow limit b w h p) (heldAfter limit b h p .store) still-lent (ends-shorter b _ (part .closed)) begins)
 
-    no-count : heldAfter limit b h p .gathered ≡ 0
+    held-item : heldAfter limit b h p ≡ record { store = heldAfter limit b h p .store; gathered = 0; matched = 0 }
     unfolding heldAfter
-    no-count = ap (λ (a : Answer). a .gathered) answer-item
+    held-item = rw answer-item
+
+    no-count : heldAfter limit b h p .gathered ≡ 0
+    no-count = ap (λ (x : Held). x .gathered) held-item
 
     no-match : heldAfter limit b h p .matched ≡ 0
-    unfolding heldAfter
-    no-match = ap (λ (a : Answer). a .matched) answer-item
+    no-match = ap (λ (x : Held). x .matched) held-item
 
     anew : Right limit b [] (heldAfter limit b h p)
     anew = nothing-gathered limit b (heldAfter limit b h p) still-lent no-count no-match
