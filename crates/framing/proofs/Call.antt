@@ -53,13 +53,14 @@ cut-fits b p m held = go (leb (itemEnd b w) (length w)) refl
           held = λ d. omega (arith, size, ends-shorter _ w (longest-ends (length b) b w), length-take (longestMatch (length b) b w) b);
         }
 
-pub answered-taken : (limit k g : ℕ) (c : Cut) → answered limit k g c .taken ≡ c .taken
+-- an answer to a cut is no refusal, and takes what the cut does
+pub answered-keeps : (limit k g : ℕ) (c : Cut) → (answered limit k g c .refusal ≡ 0) × (answered limit k g c .taken ≡ c .taken)
 unfolding answered
-answered-taken limit k g c = go (c .ended) refl
+answered-keeps limit k g c = go (c .ended) refl
   where
-    go : (t : Bool) → c .ended ≡ t → answered limit k g c .taken ≡ c .taken
-    go true e = rw e
-    go false e = rw e
+    go : (t : Bool) → c .ended ≡ t → (answered limit k g c .refusal ≡ 0) × (answered limit k g c .taken ≡ c .taken)
+    go true e = (rw e, rw e)
+    go false e = (rw e, rw e)
 
 module _ (limit : ℕ) (b s p : List ℕ) (g m number : ℕ) (is : number ≡ refusalOf limit (length b) (length s) g m) where
   pub when-refused : (number ≡ 0 → ⊥) → (refusedWith number g m ≡ answerOf limit b s p g m) × (s ≡ storeAfter limit b s p g m)

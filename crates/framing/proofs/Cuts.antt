@@ -2,14 +2,14 @@
 -- `Part` speak of them. Assumes nothing.
 use mathlib.Core.Path.{_≡_, refl, sym, ap, _∙_}
 use mathlib.Core.Bool.{Bool, true, false}
-use mathlib.Core.List.{List, [], _∷_, _++_, append-assoc, append-nil}
+use mathlib.Core.List.{List, [], _∷_, _++_, append-assoc, append-nil, cons-eq-cons}
 use Prim.Native.Nat.{ℕ, _+_, _-_, _≤_, _<_}
 use native.Mathlib.Omega.{arith}
 use lib.ListN.{length, take, drop, length-append, length-take, take-append-drop}
 use lib.Seq.{take-take, take-append-le, take-append-seam, drop-append-seam}
 use lib.Dec.{leb}
 use borrow.Author.Tests.{leb-true, leb-false}
-use Rattle.laws.specs.Bytes.{endsWith}
+use Rattle.laws.specs.Bytes.{Ends, endsWith}
 use Rattle.laws.proofs.Tests.{true-false, never}
 use Rattle.laws.proofs.Tails.{ends-of-test, test-of-ends}
 use Rattle.framing.specs.Stream.{joined, Free, Part}
@@ -34,6 +34,10 @@ none-free b w none x y e =
     let within : size ≤ length w = omega (arith, ap length e, length-append x (b ++ y), length-append x b, length-append b y) in
     let ends : endsWith b (take size w) ≡ true = rw (ends-there b w x y e) (test-of-ends b (x ++ b) (x, refl)) in
     true-false ends (none size within)
+
+-- what is free of the boundary does not end with it
+pub not-at-end : (b w : List ℕ) → Free b w → Ends b w → ⊥
+not-at-end b w free tail = free (tail .0) [] (tail .1 ∙ ap (λ (l : List ℕ). tail .0 ++ l) (sym (append-nil b)))
 
 -- the first e bytes of w are a part, where the boundary ends them and no fewer
 pub part-first : (b w : List ℕ) (e : ℕ) → e ≤ length w → endsWith b (take e w) ≡ true → ((i : ℕ) → i < e → endsWith b (take i w) ≡ false) → Part b (take e w)
@@ -103,10 +107,7 @@ cut-once b stream (q ∷ qs) (q′ ∷ qs′) w w′ c c′ =
     cut-once b (joined qs ++ w) qs qs′ w w′
     (record { whole = refl; each = c .each .1; left = c .left })
     (record { whole = rest; each = c′ .each .1; left = c′ .left }) in
-    (both-cons same (both .0), both .1)
-  where
-    both-cons : {x x′ : List ℕ} {xs xs′ : List (List ℕ)} → x ≡ x′ → xs ≡ xs′ → x ∷ xs ≡ x′ ∷ xs′
-    both-cons p r = cc
+    (cons-eq-cons .1 (same, both .0), both .1)
 
 -- an occurrence that ended before the part does would stand within it
 pub leftmost : Leftmost

@@ -2,7 +2,7 @@
 -- then. Assumes nothing.
 use mathlib.Core.Path.{_≡_, refl, sym, ap, _∙_}
 use mathlib.Core.Bool.{Bool, true, false}
-use mathlib.Core.List.{List, [], _++_, append-nil}
+use mathlib.Core.List.{List, [], _++_}
 use Prim.Native.Nat.{ℕ, suc, _+_, _-_, _≤_, _<_, min}
 use native.Mathlib.Omega.{arith}
 use lib.ListN.{length, take, drop, length-append, length-take}
@@ -20,13 +20,13 @@ use Rattle.framing.specs.Cutting.{refusalOf, longestMatch, itemEnd, cutO
 use Rattle.framing.specs.Refusals.{nothing}
 use Rattle.framing.specs.Stream.{Free, Part, itemOfPart, Held, answerTo, heldAfter, Handed, Lent, Begins, Right}
 use Rattle.framing.specs.Promises.{gatheredNow, Outcome, waits, completes, CallRight, EveryCallRight}
-use Rattle.framing.proofs.Refusals.{due-is, accepted, answered-accepts}
+use Rattle.framing.proofs.Refusals.{due-is}
 use Rattle.framing.proofs.Matcher.{longest-ends, longest-most}
-use Rattle.framing.proofs.Call.{Fit, cut-fits, answered-taken, when-taken}
+use Rattle.framing.proofs.Call.{Fit, cut-fits, answered-keeps, when-taken}
 use Rattle.framing.proofs.GoesOn.{goes-on}
 use Rattle.framing.proofs.Stored.{store-begins, store-rest}
 use Rattle.framing.proofs.Places.{every-place-right}
-use Rattle.framing.proofs.Cuts.{free-none, none-free, part-first}
+use Rattle.framing.proofs.Cuts.{free-none, none-free, not-at-end, part-first}
 use Rattle.framing.proofs.Handed.{handed-part}
 
 -- a tail as long as the boundary, or longer, would be the boundary itself
@@ -34,9 +34,7 @@ tail-below : (b w : List ℕ) (j : ℕ) → Free b w → Ends (take j b) w → j
 tail-below b w j free tail = go (leb (length b) j) refl
   where
     go : (t : Bool) → leb (length b) j ≡ t → j < length b
-    go true e =
-        let whole = rw (take-all j b (leb-true (length b) j e)) at tail in
-        absurd (free (whole .0) [] (whole .1 ∙ ap (λ (l : List ℕ). whole .0 ++ l) (sym (append-nil b))))
+    go true e = absurd (not-at-end b w free (rw (take-all j b (leb-true (length b) j e)) at tail))
     go false e = leb-false (length b) j e
 
 pub match-below : (limit : ℕ) (b w : List ℕ) (h : Held) → Right limit b w h → h .matched < length b
@@ -122,7 +120,7 @@ module _ (limit : ℕ) (b w : List ℕ) (h : Held) (p : List ℕ) (right : Right
   store-is = sym (when-taken limit b s p g m 0 (sym accepts) refl .1) ∙ stored-at (found .taken)
 
   taken-is : answerTo limit b h p .taken ≡ found .taken
-  taken-is = ap (λ (a : Answer). a .taken) answer-is ∙ answered-taken limit k g found
+  taken-is = ap (λ (a : Answer). a .taken) answer-is ∙ answered-keeps limit k g found .1
 
   reach-is : length (take (limit + k) (gatheredNow limit b w h p)) ≡ min (limit + k) (length w + found .taken)
   reach-is = rw taken-is (simp (length-take, length-append) (omega (arith, fit .taken)))
@@ -267,7 +265,7 @@ module _ (limit : ℕ) (b w : List ℕ) (h : Held) (p : List ℕ) (right : Right
   call-right : CallRight limit b w h p
   call-right =
       record {
-        accepted = ap (λ (a : Answer). a .refusal) answer-is ∙ answered-accepts limit k g found;
+        accepted = ap (λ (a : Answer). a .refusal) answer-is ∙ answered-keeps limit k g found .0;
         taken = rw taken-is (fit .taken);
         begins = begins;
         later = later;

@@ -15,7 +15,7 @@ use Rattle.framing.specs.Cutting.{refusalOf, cutOf, answerOf, kept, stor
 use Rattle.framing.specs.Refusals.{Accepted}
 use Rattle.framing.specs.Promises.{PlaceRight, EveryPlaceRight}
 use Rattle.framing.proofs.Refusals.{accepted}
-use Rattle.framing.proofs.Call.{Fit, cut-fits, when-taken, answered-taken}
+use Rattle.framing.proofs.Call.{Fit, cut-fits, when-taken, answered-keeps}
 
 module _ (limit : ℕ) (b s p : List ℕ) (g m : ℕ) (taken : refusalOf limit (length b) (length s) g m ≡ 0) where
   ok : Accepted limit (length b) (length s) g m
@@ -31,7 +31,7 @@ module _ (limit : ℕ) (b s p : List ℕ) (g m : ℕ) (taken : refusalOf limit (
   fit = cut-fits b p m (ok .below)
 
   taken-is : answerOf limit b s p g m .taken ≡ t
-  taken-is = ap (λ (a : Answer). a .taken) (sym (when-taken limit b s p g m 0 (sym taken) refl .0)) ∙ answered-taken limit (length b) g (cutOf b p m)
+  taken-is = ap (λ (a : Answer). a .taken) (sym (when-taken limit b s p g m 0 (sym taken) refl .0)) ∙ answered-keeps limit (length b) g (cutOf b p m) .1
 
   store-is : storeAfter limit b s p g m ≡ paste s g p n
   store-is = sym (when-taken limit b s p g m 0 (sym taken) refl .1)

@@ -9,8 +9,8 @@ use native.Mathlib.Omega.{arith}
 use lib.ListN.{length}
 use lib.Dec.{ltb, leb, eqb}
 use borrow.Author.Tests.{ltb-true, ltb-false, leb-true, leb-false, lt-ltb, le-ltb, le-leb, lt-leb, eqb-true, ne-eqb}
-use Rattle.framing.specs.declared.Cut.{Cut}
 use Rattle.framing.specs.Cutting.{mostBoundary, refusalOf, refusedWith, answered, cutOf, answerOf, storeAfter}
+use Rattle.framing.proofs.Call.{answered-keeps}
 use Rattle.framing.specs.Refusals.{Accepted, Due, boundary, store, held, nothing, Unchanged}
 
 module _ (limit k n g m : ℕ) where
@@ -77,14 +77,6 @@ module _ (limit k n g m : ℕ) where
       fits _ (held _ _ _ _) e = absurd (omega arith)
       fits _ (nothing a) e = a
 
-pub answered-accepts : (limit k g : ℕ) (c : Cut) → answered limit k g c .refusal ≡ 0
-unfolding answered
-answered-accepts limit k g c = go (c .ended) refl
-  where
-    go : (t : Bool) → c .ended ≡ t → answered limit k g c .refusal ≡ 0
-    go true e = rw e
-    go false e = rw e
-
 module _ (limit : ℕ) (b s p : List ℕ) (g m : ℕ) where
   -- the answer's refusal is the call's
   pub answer-refusal : answerOf limit b s p g m .refusal ≡ refusalOf limit (length b) (length s) g m
@@ -95,7 +87,7 @@ module _ (limit : ℕ) (b s p : List ℕ) (g m : ℕ) where
       number = refusalOf limit (length b) (length s) g m
 
       go : (t : Bool) → eqb number 0 ≡ t → cond t (answered limit (length b) g (cutOf b p m)) (refusedWith number g m) .refusal ≡ number
-      go true e = answered-accepts limit (length b) g (cutOf b p m) ∙ sym (eqb-true number 0 e)
+      go true e = answered-keeps limit (length b) g (cutOf b p m) .0 ∙ sym (eqb-true number 0 e)
       go false e = refl
 
   pub refused-changes-nothing : (answerOf limit b s p g m .refusal ≡ 0 → ⊥) → Unchanged limit b s p g m

@@ -1,7 +1,7 @@
 -- THEOREMS over a whole stream. `calls-go-on`: every list of pieces has its calls. `items-of-the-stream`: they give exactly the items of the stream,
 -- and hold what is right for the bytes waiting. `pieces-do-not-matter`: how the stream was cut into pieces changes none of it. Assumes nothing.
 use mathlib.Core.Path.{_≡_, refl, sym, ap, _∙_}
-use mathlib.Core.List.{List, [], _∷_, _++_, append-assoc, append-nil}
+use mathlib.Core.List.{List, [], _∷_, _++_, append-assoc, append-nil, cons-eq-cons}
 use Prim.Native.Nat.{ℕ, zero, suc, _+_, _-_, _≤_, _<_}
 use native.Mathlib.Omega.{arith}
 use lib.ListN.{length, take, drop, length-take, length-drop, take-append-drop}
@@ -11,7 +11,7 @@ use Rattle.framing.specs.declared.Item.the-variants.{NotYet}
 use Rattle.framing.specs.Cutting.{itemNumber}
 use Rattle.framing.specs.Stream.{joined, Part, StreamItem, itemOfPart, itemsOfParts, Held, fresh, answerTo, heldAfter, Handed, an-empty, a-message, too-long, Calls, over, used, cut, Lent, Right}
 use Rattle.framing.specs.Promises.{gatheredNow, Outcome, waits, completes, CallRight, CallsGoOn, Delivers, ItemsOfTheStream, SameHeld, PiecesDoNotMatter}
-use Rattle.framing.proofs.Cuts.{cut-once}
+use Rattle.framing.proofs.Cuts.{cut-once, not-at-end}
 use Rattle.framing.proofs.OneCall.{every-call-right, match-below, nothing-gathered}
 
 -- before the first call nothing is gathered
@@ -34,10 +34,7 @@ takes-some : (limit : ℕ) (b w : List ℕ) (h : Held) (p : List ℕ) → Right 
 takes-some limit b w h p right part = go (answerTo limit b h p .taken) refl
   where
     go : (t : ℕ) → answerTo limit b h p .taken ≡ t → 0 < t
-    go zero e =
-        let x = part .closed .0 in
-        let is : w ≡ x ++ b = sym (append-nil w) ∙ rw e at (part .closed .1) in
-        absurd (right .free x [] (is ∙ ap (λ (l : List ℕ). x ++ l) (sym (append-nil b))))
+    go zero e = absurd (not-at-end b w (right .free) (part .closed .0, sym (append-nil w) ∙ rw e at (part .closed .1)))
     go (suc t) e = omega arith
 
 -- THE CALLS GO ON over a piece where they do over every shorter rest of it, and over the later pieces; and so over all
@@ -87,7 +84,7 @@ module _ (limit : ℕ) (b : List ℕ) where
         parts = q ∷ rest .parts;
         waiting = rest .waiting;
         cuts = record { whole = whole; each = (part, rest .cuts .each); left = rest .cuts .left };
-        gives = both (handed-once given handed) (rest .gives);
+        gives = cons-eq-cons .1 (handed-once given handed, rest .gives);
         holds = rest .holds;
       }
     where
@@ -104,9 +101,6 @@ module _ (limit : ℕ) (b : List ℕ) where
           ∙ sym (append-assoc w (take t p) (drop t p ++ joined ps))
           ∙ ap (λ (l : List ℕ). w ++ take t p ++ l) (rest .cuts .whole)
           ∙ sym (append-assoc (w ++ take t p) (joined (rest .parts)) (rest .waiting))
-
-      both : {x x′ : StreamItem} {xs xs′ : List StreamItem} → x ≡ x′ → xs ≡ xs′ → x ∷ xs ≡ x′ ∷ xs′
-      both e f = cc
 
   items-from : (w : List ℕ) (h : Held) (ps : List (List ℕ)) (items : List StreamItem) (last : Held) → Right limit b w h
       → Calls limit b h ps items last → Delivers limit b (w ++ joined ps) items last

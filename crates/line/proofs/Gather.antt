@@ -1,46 +1,21 @@
--- THEOREMS on `ali_gather`. `refused-exactly`: a number of refusal, or 0, is given exactly when it is due. `refused-writes-nothing`: a refused call
--- leaves the store and the answer list as they were. `gather-once`: its contract has one answer. Before them the three cases of a call: a list that
--- is too short, a call that the framing refuses, and one that it answers. Assumes nothing.
-use mathlib.Core.Path.{_≡_, refl, sym, ap, _∙_, subst}
+-- THEOREMS on `ali_gather`. `refused-writes-nothing`: a refused call leaves the store and the answer list as they were. `refused-exactly`: a number of
+-- refusal, or 0, is given exactly when it is due. `gather-once`: its contract has one answer. Assumes nothing.
+use mathlib.Core.Path.{_≡_, refl, sym, _∙_, subst}
 use mathlib.Core.Bool.{Bool, true, false, cond}
 use mathlib.Core.List.{List}
 use mathlib.Core.Logic.{_↔_}
-use Prim.Native.Nat.{ℕ, _≤_, _<_}
+use Prim.Native.Nat.{ℕ}
 use lib.ListN.{length}
-use borrow.Author.Tests.{ltb-true, ltb-false, lt-ltb, le-ltb, eq-eqb, ne-eqb}
+use borrow.Author.Tests.{ltb-true, ltb-false, lt-ltb, le-ltb, ne-eqb}
 use Rattle.laws.proofs.OneAnswer.{one-answer}
-use Rattle.framing.specs.declared.Answer.{Answer}
-use Rattle.framing.specs.Cutting.{linkLimit, refusalOf, answerOf, storeAfter}
+use Rattle.framing.specs.Cutting.{linkLimit, refusalOf}
 use Rattle.framing.proofs.Refusals as framing-refusals
 use Rattle.framing.proofs.Refusals.{answer-refusal, refused-changes-nothing}
-use Rattle.line.specs.Lists.{tooShort, written}
+use Rattle.line.specs.Lists.{tooShort}
 use Rattle.line.specs.Refusals.{DueForC, list, framing}
-use Rattle.line.specs.Gather.{gatherRefusal, gatherStore, answerNumbers, gatherList}
+use Rattle.line.specs.Gather.{gatherRefusal, gatherStore, gatherList}
 
 module _ (b s p : List ℕ) (g m : ℕ) (a : List ℕ) where
-  pub list-short : length a < 40 → (3 ≡ gatherRefusal b s g m a) × ((s ≡ gatherStore b s p g m a) × (a ≡ gatherList b s p g m a))
-  unfolding gatherRefusal gatherStore gatherList
-  list-short short = let t = lt-ltb (length a) 40 short in (rw t, (rw t, rw t))
-
-  -- past the list's length the framing decides: r is its answer and s′ the store that it leaves
-  module _ (long : 40 ≤ length a) (r : Answer) (is : r ≡ answerOf linkLimit b s p g m) (s′ : List ℕ) (left : s′ ≡ storeAfter linkLimit b s p g m) where
-    refusal-is : r .refusal ≡ refusalOf linkLimit (length b) (length s) g m
-    refusal-is = ap (λ (x : Answer). x .refusal) is ∙ answer-refusal linkLimit b s p g m
-
-    pub call-refused : (r .refusal ≡ 0 → ⊥)
-        → (r .refusal ≡ gatherRefusal b s g m a) × ((s′ ≡ gatherStore b s p g m a) × (a ≡ gatherList b s p g m a))
-    unfolding gatherRefusal gatherStore gatherList
-    call-refused some =
-        let t = le-ltb (length a) 40 long in
-        (rw t refusal-is, (rw t left, rw (t, ← refusal-is, ne-eqb (r .refusal) 0 some)))
-
-    pub call-answered : r .refusal ≡ 0
-        → (0 ≡ gatherRefusal b s g m a) × ((s′ ≡ gatherStore b s p g m a) × (written (answerNumbers r) a ≡ gatherList b s p g m a))
-    unfolding gatherRefusal gatherStore gatherList
-    call-answered none =
-        let t = le-ltb (length a) 40 long in
-        (rw t (sym none ∙ refusal-is), (rw t left, rw (t, ← refusal-is, eq-eqb (r .refusal) 0 none, ← is)))
-
   pub refused-writes-nothing : (gatherRefusal b s g m a ≡ 0 → ⊥) → (gatherStore b s p g m a ≡ s) × (gatherList b s p g m a ≡ a)
   unfolding gatherRefusal gatherStore gatherList
   refused-writes-nothing refused = (go (tooShort a) refl, rw (ne-eqb (gatherRefusal b s g m a) 0 refused))

@@ -1,2 +1,3 @@
--- `Gather` has the three cases of a call of `ali_gather`, and the theorem that a refused one writes nothing.
+-- `Cases` has the cases of a call of `ali_gather` for its proof, and `Gather` the theorems on it.
+mod Cases
 pub mod Gather

@@ -1,17 +1,17 @@
--- `line::gathering::ali_gather` meets its contract: each `return` is a case of `Gather`.
+-- `line::gathering::ali_gather` meets its contract: each `return` is one of `Cases`.
 -- Assumes nothing.
 use borrow.Author.Needs.{needs}
-use native.Mathlib.Omega.{arith}
+use borrow.Author.Tests.{lt-ltb, le-ltb}
 use denote.Ref.{now}
 use mathlib.Core.Path.{_∙_}
-use Rattle.line.proofs.Gather.{list-short, call-refused, call-answered}
+use Rattle.line.proofs.Cases.{list-short, call-refused, call-answered}
 use Rattle.line.proofs.gathering.ali_gather.Statement.{statement}
 use Rattle.line.proofs.gathering.ali_gather.Tie as tie
 
 returns : tie.Need-returns
 returns c =
     let a = c .before .before .before .before .before .args in
-    list-short (now (a .boundary)) (now (a .store)) (now (a .piece)) (a .gathered) (a .matched) (now (a .answer)) (c .if1 .taken)
+    list-short (now (a .boundary)) (now (a .store)) (now (a .piece)) (a .gathered) (a .matched) (now (a .answer)) (lt-ltb _ _ (c .if1 .taken))
 
 gather-requires : tie.Need-gather-requires
 gather-requires c κs = search needs
@@ -23,7 +23,8 @@ returns-2 : tie.Need-returns-2
 returns-2 c =
     let a = c .before .before .before .before .before .before .before .before .before .before .args in
     let g = c .before .before .before .gather in
-    call-refused (now (a .boundary)) (now (a .store)) (now (a .piece)) (a .gathered) (a .matched) (now (a .answer)) (omega arith)
+    call-refused (now (a .boundary)) (now (a .store)) (now (a .piece)) (a .gathered) (a .matched) (now (a .answer))
+    (le-ltb _ _ (c .before .before .before .before .before .if1 .left))
     (g .result) (g .ensures .0) (g .last .1 .0) (g .ensures .1) (c .if2 .taken)
 
 number-requires : tie.Need-number-requires
@@ -64,7 +65,8 @@ returns-3 c =
     let g = numbered .before .before .before .before .gather in
     let a = numbered .before .before .before .before .before .before .before .before .before .before .before .args in
     let said =
-    call-answered (now (a .boundary)) (now (a .store)) (now (a .piece)) (a .gathered) (a .matched) (now (a .answer)) (omega arith)
+    call-answered (now (a .boundary)) (now (a .store)) (now (a .piece)) (a .gathered) (a .matched) (now (a .answer))
+    (le-ltb _ _ (numbered .before .before .before .before .before .before .if1 .left))
     (g .result) (g .ensures .0) (g .last .1 .0) (g .ensures .1) (numbered .before .if2 .left) in
     (said .0, (said .1 .0, rw (numbered .number .ensures, measured .length .ensures) at (wrote .write .ensures) ∙ said .1 .1))
 

@@ -1,0 +1,66 @@
+#!/usr/bin/env python3
+"""Checks why each must-fail edit was refused, in the logs that `rt ci` or `rt must-fail` left below target/must-fail/.
+
+An edit says where it has to be refused, by a line 'at: FILE NAME': the prover must have refused NAME in FILE for a reason of its own, and
+not because something that it cites was refused. An edit whose name begins both_ or stream_ leaves code and contracts in agreement, so
+nothing of the code may be refused for a reason of its own. And no edit may only have made a proof unfit for the code's shape.
+The last line is 'N passed, M failed'; the exit status is 0 only if nothing failed.
+"""
+import glob
+import os
+import re
+import sys
+
+TOP = os.path.dirname(os.path.dirname(os.path.abspath(__file__)))
+AT = re.compile(r"^at: (\S+) (\S+)$", re.MULTILINE)
+ERROR = re.compile(r"((?:src|specs|proofs)/\S+?):\d+:\d+: error: `([^`]+)`: (.*)")
+UNPROVED = re.compile(r"note: \S*?((?:src)/\S+?):\d+:\d+: it is not proved .*\(`([^`]+)`\)")
+FOLLOWS = "was not admitted"
+UNFIT = re.compile(r"that can be named from here|expected type `tie\.Need")
+
+
+def refusals(log):
+    """(file, name) of everything that was refused for a reason of its own."""
+    own = {(file, name) for file, name, why in ERROR.findall(log) if FOLLOWS not in why}
+    return own | set(UNPROVED.findall(log))
+
+
+def of_the_code(file):
+    return file.startswith("src/") or file.endswith("/Proof.antt")
+
+
+def faults(label, edit, log):
+    wanted = AT.findall(edit)
+    found = refusals(log)
+    if not wanted:
+        yield "it does not say where it has to be refused"
+    for place in wanted:
+        if place not in found:
+            yield "not refused at %s of %s, but at %s" % (place[1], place[0], sorted(found))
+    if label.startswith(("both_", "stream_")):
+        for file, name in sorted(found):
+            if of_the_code(file):
+                yield "the code was refused too, at %s of %s" % (name, file)
+    if UNFIT.search(log):
+        yield "it only made a proof unfit for the code"
+
+
+def read(path):
+    with open(path, encoding="utf-8") as file:
+        return file.read()
+
+
+def main():
+    passed = failed = 0
+    for path in sorted(glob.glob(os.path.join(TOP, "crates", "*", "must-fail", "*.edit"))):
+        crate, label = path.split(os.sep)[-3], os.path.splitext(os.path.basename(path))[0]
+        log = os.path.join(TOP, "target", "must-fail", crate, label, ".log")
+        found = list(faults(label, read(path), read(log))) if os.path.exists(log) else ["it was not tried"]
+        passed, failed = passed + (not found), failed + bool(found)
+        for fault in found:
+            print("FAILED %s/%s: %s" % (crate, label, fault))
+    print("%d passed, %d failed" % (passed, failed))
+    return 1 if failed or not passed else 0
+
+
+sys.exit(main())
