@@ -7,9 +7,7 @@
 #define GATHER_GROUND_H
 
 #include "ali_link.h"
-
-#include <stdio.h>
-#include <string.h>
+#include "counting.h"
 
 enum {
     GUARD = 64,
@@ -31,12 +29,6 @@ struct ground {
 
 static struct ground lent, due;
 
-struct bytes {
-    const char *at;
-    size_t length;
-};
-#define TEXT(literal) {literal, sizeof literal - 1}
-
 struct room { /* what the host lends for writing */
     size_t store_length, places;
 };
@@ -48,19 +40,7 @@ struct call {
     uint32_t gathered, matched;
 };
 
-/* ---- counting ---- */
-
-static unsigned long passed, failed;
-
-static void check(int ok, int line, const char *of, const char *what)
-{
-    if (ok) {
-        passed++;
-        return;
-    }
-    failed++;
-    printf("FAILED line %d: %s: %s\n", line, of, what);
-}
+/* ---- verdicts ---- */
 
 /* Many calls make one check of each kind, so that the count speaks of cases and not of bytes. */
 struct verdict {

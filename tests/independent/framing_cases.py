@@ -4,9 +4,10 @@ Streams are spelled in one to three letters and sown with boundaries and parts o
 overlap all the time; the driver fills stores with bytes that no such stream contains.
 """
 
+from checks import Difference
 from framing import (COUNT_CAP, MESSAGE, MESSAGE_LIMIT, NO_ITEM, PLACES_NEEDED, STORE_NEEDED, TOO_LONG, Item,
                      items_of_stream, kind_of_item, longest_tail_beginning)
-from framing_links import Difference, describe_bytes_difference, shorten
+from framing_links import describe_bytes_difference, shorten
 from vector_text import bytes_to_text
 
 LONGEST_STORE = 70000

@@ -3,13 +3,11 @@
 Both have the same face, so that what is asked of the real code over whole streams is first asked of the model.
 """
 
+from checks import Difference
+from driver import fill, filled_answer, names_of_alarms
 from framing import PLACES_NEEDED, STORE_NEEDED, Gathered, gather
-from gather_driver import fill, filled_answer, names_of_alarms
+from gather_driver import ALARMS
 from vector_text import bytes_to_text
-
-
-class Difference(Exception):
-    """What was given is not what the papers say."""
 
 
 def shorten(text, most=200):
@@ -69,7 +67,7 @@ class RealLink:
 
         complaints = []
         if reply.alarms:
-            complaints.append(names_of_alarms(reply.alarms))
+            complaints.append(names_of_alarms(ALARMS, reply.alarms))
         if reply.returned != expected.refusal:
             complaints.append("returned %d, expected %d" % (reply.returned, expected.refusal))
         complaints += complaints_about_answer(reply.answer, expected.numbers, filled_answer(places, answer_seed))

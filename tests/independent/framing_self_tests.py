@@ -6,11 +6,12 @@ What is expected in `EXAMPLES`, `REFUSALS` and `CALLS` was written by hand from 
 import itertools
 import random
 
+from checks import equal
+from driver import fill
 from framing import (COUNT_CAP, EMPTY, MESSAGE, MESSAGE_LIMIT, NO_ITEM, TOO_LONG, Item, end_of_boundary, gather,
                      items_of_stream, refusal_of)
 from framing_cases import STREAM_CASES, check_stream, cut_at
-from framing_links import Difference, ModelLink
-from gather_driver import fill
+from framing_links import ModelLink
 from vector_text import vector_from_text, vector_to_text
 
 LIMIT_MESSAGE = b"p" * MESSAGE_LIMIT
@@ -51,11 +52,6 @@ CALLS = (
     (b"aab", b"b", 4294967295, 2, (1, TOO_LONG, 0, 0, 0), 0),
     (b"aab", b"aabz", 4294967294, 0, (3, TOO_LONG, 0, 0, 0), 0),
 )
-
-
-def equal(given, expected, about):
-    if given != expected:
-        raise Difference("%s: %.200r, expected %.200r" % (about, given, expected))
 
 
 def test_example(boundary, stream, items, waiting):

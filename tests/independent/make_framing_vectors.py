@@ -7,8 +7,8 @@ import itertools
 import sys
 import zlib
 
+from driver import fill
 from framing import COUNT_CAP, MESSAGE_LIMIT, PLACES_NEEDED, STORE_NEEDED, gather
-from gather_driver import fill
 from vector_text import Call, Vector, vector_to_text
 
 SPELLED = b"ABCDEFG"  # seven different letters, so that bytes laid at a wrong place show

@@ -1,3 +1,6 @@
--- `Cases` has the cases of a call of `ali_gather` for its proof, and `Gather` the theorems on it.
+-- `Written` has the laws on the list, `Cases` and `ReadCases` the cases of a call for its proof, `Gather` and `Read` the theorems on the calls.
+mod Written
 mod Cases
+mod ReadCases
 pub mod Gather
+pub mod Read

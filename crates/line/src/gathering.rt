@@ -34,6 +34,6 @@ pub extern "C" fn ali_gather(
         said.gathered as u64,
         said.matched as u64,
     ];
-    lists::write(answer, &numbers);
+    lists::write(answer, 0, &numbers);
     0
 }

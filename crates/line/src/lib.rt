@@ -2,3 +2,4 @@
 // include/ali_link.h declares them for C.
 mod gathering;
 mod lists;
+mod reading;

@@ -4,18 +4,18 @@ use Prim.Native.Nat.{_-_}
 use mathlib.Core.Path.{_∙_}
 use borrow.Author.Needs.{needs}
 use native.Mathlib.Omega.{arith}
-use native.Mathlib.Nat.{zero-add}
 use lib.ListN.{length}
+use lib.Seq.{take-length}
 use denote.Ref.{now}
-use Rattle.laws.proofs.Copies.{Copied, copied-first, copied-next, copied-all, paste-start}
+use Rattle.laws.proofs.Copies.{Copied, copied-first, copied-next, copied-all}
 use Rattle.line.proofs.lists.write.Statement.{statement}
 use Rattle.line.proofs.lists.write.Tie as tie
 
 abbrev Inv-loop : tie.InvT-loop
-Inv-loop list₀ numbers i₀ list i = Copied list₀ 0 numbers (length numbers) i list
+Inv-loop list₀ at numbers i₀ list i = Copied list₀ at numbers (length numbers) i list
 
 abbrev μ-loop : tie.MeasureT-loop
-μ-loop list₀ numbers i₀ list i = length numbers - i
+μ-loop list₀ at numbers i₀ list i = length numbers - i
 
 loop-holds : tie.Need-loop-holds Inv-loop μ-loop
 loop-holds c = copied-first _ _ _ _
@@ -25,6 +25,9 @@ mul-list c = search needs
 
 shared-slice-read-list : tie.Need-shared-slice-read-list Inv-loop μ-loop
 shared-slice-read-list c = search needs
+
+add-list : tie.Need-add-list Inv-loop μ-loop
+add-list c = search needs
 
 mul-list-2 : tie.Need-mul-list-2 Inv-loop μ-loop
 mul-list-2 c = search needs
@@ -42,9 +45,8 @@ loop-again : tie.Need-loop-again Inv-loop μ-loop
 loop-again c =
     let a = c .before .before .before .args in
     let i = c .before .before .loop .i in
-    rw (zero-add i) at
-    (copied-next (now (a .list)) 0 (now (a .numbers)) (length (now (a .numbers))) 0 i _ (c .before .before .loop .inv) (c .before .loop-test .taken) (omega arith)
-    (omega arith))
+    copied-next (now (a .list)) (a .at) (now (a .numbers)) (length (now (a .numbers))) 0 i _ (c .before .before .loop .inv) (c .before .loop-test .taken)
+    (omega arith) (omega arith)
 
 same-length : tie.Need-same-length Inv-loop μ-loop
 same-length c = c .before .loop .inv .size
@@ -52,7 +54,7 @@ same-length c = c .before .loop .inv .size
 returns : tie.Need-returns Inv-loop μ-loop
 returns c =
     let a = c .before .before .args in
-    copied-all _ _ _ _ _ _ (c .before .loop .inv) (c .loop-test .left) ∙ paste-start (now (a .list)) (now (a .numbers))
+    copied-all _ _ _ _ _ _ (c .before .loop .inv) (c .loop-test .left) ∙ rw (take-length (now (a .numbers)))
 
 pub write-spec : {M : Type 1} → statement M
 write-spec =
@@ -63,6 +65,7 @@ write-spec =
     loop-holds
     mul-list
     shared-slice-read-list
+    add-list
     mul-list-2
     slice-write-list
     add-i

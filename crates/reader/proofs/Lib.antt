@@ -1,0 +1,10 @@
+mod AttributeLaws
+mod Called
+mod ContentLoop
+mod EndTags
+mod Facts
+mod FreeLoop
+mod Letters
+mod Root
+mod Seven
+mod Trees

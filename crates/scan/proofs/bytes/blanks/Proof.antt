@@ -1,0 +1,39 @@
+-- `scan::bytes::blanks` meets its contract: from each place that the loop comes to, the run ends where it ends from the first. Assumes nothing.
+use Rattle.scan.proofs.bytes.blanks.Statement.{statement}
+use Rattle.scan.proofs.bytes.blanks.Tie as tie
+use mathlib.Core.Path.{_≡_, refl, sym, _∙_}
+use Prim.Native.Nat.{_-_}
+use native.Mathlib.Omega.{arith}
+use lib.ListN.{length}
+use Rattle.scan.specs.Class.{classIn, isSpace}
+use Rattle.scan.specs.Reading.{ends}
+use Rattle.scan.proofs.Laws.{has-lt, ends-more, ends-stop}
+
+abbrev Inv-loop : tie.InvT-loop
+Inv-loop s table at i₀ i = ends (isSpace (classIn table)) s i ≡ ends (isSpace (classIn table)) s at
+
+abbrev μ-loop : tie.MeasureT-loop
+μ-loop s table at i₀ i = length s - i
+
+loop-holds : tie.Need-loop-holds Inv-loop μ-loop
+loop-holds c = refl
+
+space-at-requires : tie.Need-space-at-requires Inv-loop μ-loop
+space-at-requires c κs = tt
+
+add-i : tie.Need-add-i Inv-loop μ-loop
+add-i c = omega (arith, has-lt _ _ _ (sym (c .before .space-at .ensures) ∙ c .if1 .taken))
+
+loop-less : tie.Need-loop-less Inv-loop μ-loop
+loop-less c = omega (arith, has-lt _ _ _ (sym (c .before .space-at .ensures) ∙ c .if1 .taken))
+
+loop-again : tie.Need-loop-again Inv-loop μ-loop
+loop-again c = sym (ends-more _ _ _ (sym (c .before .space-at .ensures) ∙ c .if1 .taken)) ∙ c .before .before .loop .inv
+
+returns : tie.Need-returns Inv-loop μ-loop
+returns c = sym (ends-stop _ _ _ (sym (c .before .space-at .ensures) ∙ c .if1 .left)) ∙ c .before .before .loop .inv
+
+pub blanks-spec : {M : Type 1} → statement M
+blanks-spec =
+    tie.close
+    (tie.spec Inv-loop μ-loop loop-holds space-at-requires add-i loop-less loop-again returns)
