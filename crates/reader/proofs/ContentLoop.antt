@@ -2,7 +2,7 @@
 use Prim.Native.Nat.{ℕ, zero, suc, _+_, _-_, _<_, _≤_}
 use mathlib.Core.Path.{_≡_, refl, sym, _∙_, ap}
 use mathlib.Core.Bool.{Bool, true, false, cond}
-use mathlib.Core.List.{List, [], _∷_}
+use mathlib.Core.List.{List}
 use native.Mathlib.Numerals.{sub-one}
 use native.Mathlib.Omega.{arith}
 use lib.ListN.{length}
@@ -13,7 +13,7 @@ use Rattle.scan.specs.Reading.Reading.{whole, refused}
 use Rattle.scan.proofs.Laws.{went, stopped, cond-true, cond-false}
 use Rattle.scan.proofs.Loops.{Fuelled, Left, left-first, left-on, left-done}
 use Rattle.reader.specs.Limits.{linkLimits}
-use Rattle.reader.specs.Elements.{Tag, Elements, Element, Start, Content, freeAt, endTagAt, startAt, contentAt, restAt, tooDeepAt, elementAt}
+use Rattle.reader.specs.Elements.{Elements, Element, Start, Content, freeAt, endTagAt, startAt, contentAt, restAt, tooDeepAt, elementAt}
 use Rattle.reader.specs.Elements.Elements.{none, more}
 use Rattle.reader.specs.Seen.{count, nothingInside, markOf, typedIn, insideOf, seenOf, seen, noted}
 use Rattle.reader.specs.Held.{nameOf, startedSaid, typeMark, emptySeen, closing}

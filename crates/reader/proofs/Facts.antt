@@ -14,7 +14,7 @@ use Rattle.scan.specs.Reading.Reading.{whole, refused}
 use Rattle.scan.specs.Names.{Named, nameAt}
 use Rattle.scan.proofs.Laws.{one-has}
 use Rattle.reader.specs.Limits.{Limits}
-use Rattle.reader.specs.Elements.{Tag, Elements, Element, Start, Content, startEndAt, attributesAt, withNameAt, startAt, freeAt, endTagAt, contentAt, restAt, tooDeepAt, elementAt, endAt, declaredOf, rootAt, documentAt}
+use Rattle.reader.specs.Elements.{Elements, Element, Start, Content, startEndAt, attributesAt, withNameAt, startAt, freeAt, endTagAt, contentAt, restAt, tooDeepAt, elementAt, endAt, declaredOf, rootAt, documentAt}
 use Rattle.reader.specs.Elements.Elements.{none, more}
 use Rattle.reader.proofs.Trees.{whole-same}
 

@@ -1,6 +1,6 @@
 -- The root, by what its reading holds on to, and what stands around it. Assumes nothing.
 use Prim.Native.Nat.{ℕ, suc}
-use mathlib.Core.Path.{_≡_, refl, sym, _∙_, ap}
+use mathlib.Core.Path.{_≡_, sym, _∙_, ap}
 use mathlib.Core.List.{List}
 use lib.ListN.{length}
 use Rattle.scan.specs.Reading.{Reading, _>>=_}

@@ -1,16 +1,15 @@
 -- The seven messages, told by what the one pass holds on to of the root. Assumes nothing.
-use Prim.Native.Nat.{ℕ, zero, suc, _+_, _-_, _<_, _≤_}
+use Prim.Native.Nat.{ℕ, suc, _-_}
 use mathlib.Core.Path.{_≡_, refl, sym, _∙_, ap, subst}
 use mathlib.Core.Bool.{Bool, true, false, cond}
 use mathlib.Core.List.{List}
 use native.Mathlib.Omega.{arith}
 use lib.ListN.{length}
 use lib.Dec.{eqb}
-use borrow.Author.Tests.{ne-eqb, eqb-true, eqb-false}
-use Rattle.laws.specs.Bytes.{sameBytes}
+use borrow.Author.Tests.{ne-eqb}
 use Rattle.scan.specs.Reading.{Reading, _>>=_, isWhole}
 use Rattle.scan.specs.Reading.Reading.{whole, refused}
-use Rattle.scan.specs.Names.{Named, nameAt}
+use Rattle.scan.specs.Names.{nameAt}
 use Rattle.scan.proofs.Laws.{went, stopped}
 use Rattle.reader.specs.Limits.{linkLimits}
 use Rattle.reader.specs.Words.{advisoryType}
@@ -18,7 +17,7 @@ use Rattle.reader.specs.Elements.{part, Tag, Elements, Element, Quoted, 
 use Rattle.reader.specs.Elements.Elements.{none, more}
 use Rattle.reader.specs.Messages.{noMessage, noStatus, noNumber, noType, message, kindOf, Found, needed, foundIn, called, onlyChild, firstCalled, attributeCalled, attributeOf, typeAdvice, typeValue, messageOfKind, messageAt}
 use Rattle.reader.specs.Seen.{count, markOf, typedIn, insideOf, seenOf, seen, adviceSeen}
-use Rattle.reader.specs.Held.{nameCalled, onlyCalled, nameEnd, kindNamed}
+use Rattle.reader.specs.Held.{onlyCalled, nameEnd, kindNamed}
 use Rattle.reader.specs.declared.Kind.{Kind}
 use Rattle.reader.specs.declared.StatusValue.{StatusValue}
 use Rattle.reader.specs.Values.{contentMeaning, adviceOf}
@@ -226,15 +225,15 @@ module _ (class : ℕ → ℕ) (s : List ℕ) (b : ℕ) (e : Element) (so : elem
       clash : whole e ≡ refused n p → ⊥
       clash h = let z : _≡_ {A = ℕ} 0 1 = cc in omega arith
 
-  advice-is : (x : Element) → adviceSeen class s (seenOf s x) ≡ typeAdvice class linkLimits s (x .inside) (x .tag .from) (x .tag .to)
+  advice-is : (x : Element) → adviceSeen class s (seenOf s x) ≡ typeAdvice class s (x .inside) (x .tag .from) (x .tag .to)
   advice-is x = go (x .inside)
     where
-      go : (es : Elements) → cond (eqb (insideOf s es .children) 0) (adviceOf (contentMeaning class s (suc (length s)) (x .tag .to) (x .tag .from))) advices.Other ≡ typeAdvice class linkLimits s es (x .tag .from) (x .tag .to)
+      go : (es : Elements) → cond (eqb (insideOf s es .children) 0) (adviceOf (contentMeaning class s (suc (length s)) (x .tag .to) (x .tag .from))) advices.Other ≡ typeAdvice class s es (x .tag .from) (x .tag .to)
       go none = refl
       go (more t inner others) = rw (ne-eqb (suc (count others)) 0 (λ z. omega (arith, z)))
 
   pub type-read : (held : Seen) {n : ℕ} {a : Advice} → seen s (elementAt class s linkLimits 30 (b - 1)) ≡ whole held → n ≡ held .to - held .from → a ≡ adviceSeen class s held
-      → record { there = true; place = held .from; length = n; advice = a } ≡ typeValue class linkLimits s e
+      → record { there = true; place = held .from; length = n; advice = a } ≡ typeValue class s e
   type-read held {n} {a} q n-is a-is =
       let x = seen-whole s (elementAt class s linkLimits 30 (b - 1)) q in
       let same : x .0 ≡ e = whole-same (sym (x .1) ∙ so) in

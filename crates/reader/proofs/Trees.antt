@@ -1,22 +1,22 @@
 -- The readers of elements: what they read whole ends past where it began and within the message. Assumes nothing.
 use Prim.Native.Nat.{ℕ, zero, suc, _+_, _-_, _<_, _≤_}
-use mathlib.Core.Path.{_≡_, refl, sym, _∙_, ap}
+use mathlib.Core.Path.{_≡_, refl, sym}
 use mathlib.Core.Bool.{Bool, true, false, cond}
 use mathlib.Core.List.{List, [], _∷_}
 use native.Mathlib.Omega.{arith}
 use lib.ListN.{length, getD}
 use lib.Dec.{ltb, eqb}
 use Rattle.scan.specs.Class.{isStart, isName, isSpace, isPlain}
-use Rattle.scan.specs.Reading.{Reading, _>>=_, is, byteAt, has, one, ends, wordAt, blanks, equalsAt, openedAt, isQuote}
+use Rattle.scan.specs.Reading.{Reading, _>>=_, is, byteAt, has, one, ends, blanks, equalsAt, openedAt, isQuote}
 use Rattle.scan.specs.Reading.Reading.{whole, refused}
 use Rattle.scan.specs.Names.{Named, shortAt, partAt, nameAt}
 use Rattle.scan.specs.Text.{beyondPlainAt, beyondPlainInAt, textAt, valueAt}
 use Rattle.scan.specs.Markup.{bangAt}
 use Rattle.scan.proofs.Laws.{cond-cases, has-lt, has-out, ends-from, ends-le, ends-out, one-yes, one-no, stopped}
-use Rattle.scan.proofs.Progress.{Every, every-then, Past, PastPlace, past-then, past-whole, past-one, past-word, past-beyond-plain, past-beyond-plain-in, beyond-plain-out}
+use Rattle.scan.proofs.Progress.{Every, every-then, Past, past-then, past-whole, past-one, past-word, past-beyond-plain, past-beyond-plain-in, beyond-plain-out}
 use Rattle.scan.proofs.MarkupLoop.{past-bang}
 use Rattle.reader.specs.Limits.{Limits}
-use Rattle.reader.specs.Elements.{part, Tag, Element, Start, Content, Quoted, isKnown, endsTag, startEndAt, quotedAt, freeAt, tooDeepAt, freshAt, attributesAt, withNameAt, startAt, endPartAt, endNameAt, endTagAt, contentAt, restAt, elementAt}
+use Rattle.reader.specs.Elements.{part, Element, Start, isKnown, endsTag, startEndAt, quotedAt, freeAt, tooDeepAt, freshAt, attributesAt, withNameAt, startAt, endPartAt, endNameAt, endTagAt, contentAt, restAt, elementAt}
 
 pub whole-same : {A : Type 0} {x y : A} → whole x ≡ whole y → x ≡ y
 whole-same e = cc

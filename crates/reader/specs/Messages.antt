@@ -1,12 +1,12 @@
 -- Document 01, "The seven messages": the kind of a message, the values that it carries, and refusal 13. Assumes nothing.
 use Prim.Native.Nat.{ℕ, zero, suc, _+_, _-_}
 use mathlib.Core.Bool.{Bool, true, false, cond}
-use mathlib.Core.List.{List, [], _∷_}
+use mathlib.Core.List.{List}
 use lib.ListN.{length}
 use Rattle.laws.specs.Bytes.{sameBytes}
 use Rattle.scan.specs.Reading.{Reading, _>>=_, blanks}
 use Rattle.scan.specs.Reading.Reading.{whole, refused}
-use Rattle.scan.specs.Names.{Named, nameAt}
+use Rattle.scan.specs.Names.{nameAt}
 use Rattle.reader.specs.Limits.{Limits}
 use Rattle.reader.specs.Elements.{part, Tag, Elements, Element, Quoted, quotedAt, documentAt}
 use Rattle.reader.specs.Elements.Elements.{none, more}
@@ -79,7 +79,7 @@ abbrev pub message : Kind → StatusValue → NumberValue → NumberValue → Nu
 message k status identity inResponseTo inRelationTo type =
     record { kind = k; status = status; id = identity; «in_response_to» = inResponseTo; «in_relation_to» = inRelationTo; «advisory_type» = type }
 
--- ---- elements, and the attributes of a start tag
+-- ---- elements by their names
 
 module _ (s : List ℕ) where
   -- elements are called by the name after any colon
@@ -97,19 +97,7 @@ module _ (s : List ℕ) where
   firstCalled w none = noMessage
   firstCalled w (more t inner others) = cond (called w t) (whole (record { tag = t; inside = inner })) (firstCalled w others)
 
-module _ (class : ℕ → ℕ) (l : Limits) (s : List ℕ) where
-  -- Looks through the attributes that stand from `at` on in a start tag for the first that is called w; names are compared whole.
-  unfoldable pub attributeCalled : ℕ → List ℕ → ℕ → Reading Quoted
-  attributeCalled zero w at = refused 9 at
-  attributeCalled (suc fuel) w at = do
-    name ← nameAt class (l .part) s (blanks class s at)
-    value ← quotedAt class s (name .end)
-    let others = attributeCalled fuel w (value .to + 1) in
-        cond (sameBytes (part s (blanks class s at) (name .end)) w) (whole value) others
-
-  abbrev pub attributeOf : List ℕ → Tag → Found
-  attributeOf w tag = foundIn (attributeCalled (length s) w (tag .name .end))
-
+module _ (class : ℕ → ℕ) (s : List ℕ) where
   -- ---- values with what they mean
 
   abbrev pub numberValue : Found → NumberValue
@@ -131,30 +119,45 @@ module _ (class : ℕ → ℕ) (l : Limits) (s : List ℕ) where
   typeValue e =
       record { there = true; place = e .tag .from; length = e .tag .to - e .tag .from; advice = typeAdvice (e .inside) (e .tag .from) (e .tag .to) }
 
+module _ (class : ℕ → ℕ) (l : Limits) (s : List ℕ) where
+  -- ---- the attributes of a start tag
+
+  -- Looks through the attributes that stand from `at` on in a start tag for the first that is called w; names are compared whole.
+  unfoldable pub attributeCalled : ℕ → List ℕ → ℕ → Reading Quoted
+  attributeCalled zero w at = refused 9 at
+  attributeCalled (suc fuel) w at = do
+    name ← nameAt class (l .part) s (blanks class s at)
+    value ← quotedAt class s (name .end)
+    let others = attributeCalled fuel w (value .to + 1) in
+        cond (sameBytes (part s (blanks class s at) (name .end)) w) (whole value) others
+
+  abbrev pub attributeOf : List ℕ → Tag → Found
+  attributeOf w tag = foundIn (attributeCalled (length s) w (tag .name .end))
+
   -- ---- the seven
 
   abbrev pub messageOfKind : Element → Kind → Reading Message
   messageOfKind root kinds.SessionOpenRequest = whole (message kinds.SessionOpenRequest noStatus noNumber noNumber noNumber noType)
   messageOfKind root kinds.SessionOpenResponse = do
     value ← needed (attributeOf words.status (root .tag))
-    whole (message kinds.SessionOpenResponse (statusValue value) noNumber noNumber noNumber noType)
+    whole (message kinds.SessionOpenResponse (statusValue class s value) noNumber noNumber noNumber noType)
   messageOfKind root kinds.SessionOk = do
     value ← needed (attributeOf words.identity (root .tag))
-    whole (message kinds.SessionOk noStatus (numberValue value) noNumber noNumber noType)
+    whole (message kinds.SessionOk noStatus (numberValue class s value) noNumber noNumber noType)
   messageOfKind root kinds.Ok = do
     value ← needed (attributeOf words.inResponseTo (root .tag))
-    whole (message kinds.Ok noStatus noNumber (numberValue value) noNumber noType)
+    whole (message kinds.Ok noStatus noNumber (numberValue class s value) noNumber noType)
   messageOfKind root kinds.Advisory = do
     child ← onlyChild s words.advisory (root .inside)
     type ← firstCalled s words.advisoryType (child .inside)
-    whole (message kinds.Advisory noStatus noNumber noNumber (numberValue (attributeOf words.inRelationTo (child .tag))) (typeValue type))
+    whole (message kinds.Advisory noStatus noNumber noNumber (numberValue class s (attributeOf words.inRelationTo (child .tag))) (typeValue class s type))
   messageOfKind root kinds.Request = do
     child ← onlyChild s words.queryRequest (root .inside)
     value ← needed (attributeOf words.identity (child .tag))
-    whole (message kinds.Request noStatus (numberValue value) noNumber noNumber noType)
+    whole (message kinds.Request noStatus (numberValue class s value) noNumber noNumber noType)
   messageOfKind root kinds.Response = do
     child ← onlyChild s words.queryResponse (root .inside)
-    whole (message kinds.Response noStatus noNumber (numberValue (attributeOf words.inResponseTo (child .tag))) noNumber noType)
+    whole (message kinds.Response noStatus noNumber (numberValue class s (attributeOf words.inResponseTo (child .tag))) noNumber noType)
 
   -- a message that is read from the place on: 13 comes after all else
   unfoldable pub messageAt : ℕ → Reading Message

@@ -1,6 +1,6 @@
 -- What the one pass over a message holds on to of each element, for the messages to be told from each other afterwards, and what the enums of the code
 -- say. An element is held on to by the place where its name begins, which is never 0. Assumes nothing.
-use Prim.Native.Nat.{ℕ, zero, suc, _+_, _-_}
+use Prim.Native.Nat.{ℕ, suc, _+_, _-_}
 use mathlib.Core.Path.{_≡_}
 use mathlib.Core.Bool.{cond}
 use mathlib.Core.List.{List}
@@ -91,4 +91,4 @@ adviceSeen class s e = cond (eqb (e .inside .children) 0) (adviceOf (contentMean
 
 -- the value is that of the type, for whichever AdvisoryType it is whose name begins at b
 abbrev pub TellsType : (ℕ → ℕ) → List ℕ → ℕ → TypeValue → Type 0
-TellsType class s b r = (e : Element) → elementAt class s linkLimits 30 (b - 1) ≡ whole e → r ≡ typeValue class linkLimits s e
+TellsType class s b r = (e : Element) → elementAt class s linkLimits 30 (b - 1) ≡ whole e → r ≡ typeValue class s e

@@ -8,7 +8,7 @@ use scan::bytes;
 use scan::markup;
 use scan::text;
 ghost use mathlib.Core.Path.{_≡_};
-ghost use Prim.Native.Nat.{suc, _<_, _≤_};
+ghost use Prim.Native.Nat.{suc, _<_};
 ghost use lib.ListN.{length};
 ghost use Rattle.scan.specs.Class.{classIn};
 ghost use Rattle.scan.specs.Reading.{has};

@@ -139,7 +139,7 @@ fn no_type() -> TypeValue
 
 // A value that was looked for, with what it means.
 fn number_value(s: &[u8], table: &[u8; 256], value: Span) -> NumberValue
-    ensures { λ r. ⌜ r ≡ numberValue (classIn (now (table .entry))) linkLimits (now (s .entry)) (foundIn (spanSaid value)) ⌝ }
+    ensures { λ r. ⌜ r ≡ numberValue (classIn (now (table .entry))) (now (s .entry)) (foundIn (spanSaid value)) ⌝ }
 {
     match value {
         Span::Whole(from, to) => NumberValue {
@@ -153,7 +153,7 @@ fn number_value(s: &[u8], table: &[u8; 256], value: Span) -> NumberValue
 }
 
 fn status_value(s: &[u8], table: &[u8; 256], value: Span) -> StatusValue
-    ensures { λ r. ⌜ r ≡ statusValue (classIn (now (table .entry))) linkLimits (now (s .entry)) (foundIn (spanSaid value)) ⌝ }
+    ensures { λ r. ⌜ r ≡ statusValue (classIn (now (table .entry))) (now (s .entry)) (foundIn (spanSaid value)) ⌝ }
 {
     match value {
         Span::Whole(from, to) => StatusValue {

@@ -7,7 +7,6 @@ ghost use Prim.Native.Nat.{_≤_, _<_};
 ghost use lib.ListN.{length};
 ghost use Rattle.scan.specs.Class.{classIn, isName};
 ghost use Rattle.scan.specs.Reading.{isWhole, wordAt, ends};
-ghost use Rattle.scan.specs.Names.{Named};
 ghost use Rattle.scan.specs.Answers.{placeSaid};
 ghost use Rattle.reader.specs.Limits.{linkLimits};
 ghost use Rattle.reader.specs.Elements.{part as partOf, endPartAt, endNameAt, endTagAt};

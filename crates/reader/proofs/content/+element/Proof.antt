@@ -17,7 +17,7 @@ use Rattle.scan.proofs.bytes.is_at.Reads as is-at-reads
 use Rattle.reader.proofs.content.+element.{statement}
 use Rattle.reader.proofs.content.+element.Tie.{close}
 use Prim.Native.Nat.{_-_, _≤_}
-use mathlib.Core.Path.{_≡_, refl, sym, _∙_, ap}
+use mathlib.Core.Path.{sym, _∙_, ap}
 use native.Mathlib.Omega.{arith}
 use lib.ListN.{length}
 use Rattle.scan.specs.Class.{classIn}

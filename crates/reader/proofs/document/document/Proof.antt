@@ -2,7 +2,7 @@
 use borrow.Author.Needs.{needs}
 use Rattle.reader.proofs.document.document.Statement.{statement}
 use Rattle.reader.proofs.document.document.Tie as tie
-use mathlib.Core.Path.{sym, _∙_, ap}
+use mathlib.Core.Path.{_∙_, ap}
 use borrow.Author.Tests.{lt-ltb, le-ltb}
 use Rattle.scan.proofs.Laws.{place-is, went, stopped, cond-true, cond-false}
 use Rattle.reader.specs.Elements.{documentAt}

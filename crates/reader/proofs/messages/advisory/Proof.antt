@@ -2,13 +2,11 @@
 use borrow.Author.Needs.{needs}
 use Rattle.reader.proofs.messages.advisory.Statement.{statement}
 use Rattle.reader.proofs.messages.advisory.Tie as tie
-use mathlib.Core.Path.{_≡_, refl, sym, _∙_, ap}
-use borrow.Author.Tests.{not-true, not-false}
+use mathlib.Core.Path.{sym, _∙_, ap}
 use native.Mathlib.Omega.{arith}
 use Rattle.scan.proofs.Laws.{place-is, went, stopped}
-use Rattle.reader.specs.Limits.{linkLimits}
 use Rattle.reader.specs.Messages.{numberValue}
-use Rattle.reader.proofs.Seven.{root-end, child-refused, child-is, value-is, value-missing, value-there, message-same, typed-none, typed-some, typed-again}
+use Rattle.reader.proofs.Seven.{child-refused, child-is, value-is, message-same, typed-none, typed-some, typed-again}
 
 slice-aggregate-only-child : tie.Need-slice-aggregate-only-child
 slice-aggregate-only-child c = search needs
@@ -50,7 +48,7 @@ type-value-requires : tie.Need-type-value-requires
 type-value-requires c κs = omega (arith, c .before .before .before .before .before .before .if1 .left)
 
 returns-3 : tie.Need-returns-3
-returns-3 c = λ root so held. let x = child-is _ _ _ root so held _ _ (place-is (c .before .before .before .before .before .before .before .before .before .before .before .only-child .ensures) (c .before .before .before .before .before .before .before .before .before .child .given .1)) in let y = typed-some _ _ 29 (x .child .inside) (x .inner) (λ z. c .before .before .before .before .before .before .before .if1 .left (x .nested ∙ z)) in message-same (c .before .before .before .before .no-status .ensures) (c .before .before .before .no-number .ensures) (c .before .before .no-number2 .ensures) (c .before .number-value .ensures ∙ ap (numberValue _ linkLimits _) (value-is _ _ _ (x .child .tag) (c .before .before .before .before .before .attribute .ensures) (x .end))) (c .type-value .ensures (y .element) (typed-again _ _ 29 (x .child .inside) y _ (x .nested))) ∙ went _ (y .first) ∙ went _ (x .only)
+returns-3 c = λ root so held. let x = child-is _ _ _ root so held _ _ (place-is (c .before .before .before .before .before .before .before .before .before .before .before .only-child .ensures) (c .before .before .before .before .before .before .before .before .before .child .given .1)) in let y = typed-some _ _ 29 (x .child .inside) (x .inner) (λ z. c .before .before .before .before .before .before .before .if1 .left (x .nested ∙ z)) in message-same (c .before .before .before .before .no-status .ensures) (c .before .before .before .no-number .ensures) (c .before .before .no-number2 .ensures) (c .before .number-value .ensures ∙ ap (numberValue _ _) (value-is _ _ _ (x .child .tag) (c .before .before .before .before .before .attribute .ensures) (x .end))) (c .type-value .ensures (y .element) (typed-again _ _ 29 (x .child .inside) y _ (x .nested))) ∙ went _ (y .first) ∙ went _ (x .only)
 
 pub advisory-spec : {M : Type 1} → statement M
 advisory-spec =

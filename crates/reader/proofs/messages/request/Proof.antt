@@ -2,10 +2,10 @@
 use borrow.Author.Needs.{needs}
 use Rattle.reader.proofs.messages.request.Statement.{statement}
 use Rattle.reader.proofs.messages.request.Tie as tie
-use mathlib.Core.Path.{_≡_, refl, sym, _∙_, ap}
+use mathlib.Core.Path.{sym, _∙_}
 use borrow.Author.Tests.{not-true, not-false}
 use Rattle.scan.proofs.Laws.{place-is, went}
-use Rattle.reader.proofs.Seven.{root-end, child-refused, child-is, value-is, value-missing, value-there, numbers-same, typed-none, typed-some}
+use Rattle.reader.proofs.Seven.{child-refused, child-is, value-missing, value-there, numbers-same}
 
 slice-aggregate-only-child : tie.Need-slice-aggregate-only-child
 slice-aggregate-only-child c = search needs

@@ -2,12 +2,10 @@
 use borrow.Author.Needs.{needs}
 use Rattle.reader.proofs.messages.response.Statement.{statement}
 use Rattle.reader.proofs.messages.response.Tie as tie
-use mathlib.Core.Path.{_≡_, refl, sym, _∙_, ap}
-use borrow.Author.Tests.{not-true, not-false}
+use mathlib.Core.Path.{_∙_, ap}
 use Rattle.scan.proofs.Laws.{place-is, went}
-use Rattle.reader.specs.Limits.{linkLimits}
 use Rattle.reader.specs.Messages.{numberValue}
-use Rattle.reader.proofs.Seven.{root-end, child-refused, child-is, value-is, value-missing, value-there, numbers-same, typed-none, typed-some, typed-again}
+use Rattle.reader.proofs.Seven.{child-refused, child-is, value-is, numbers-same}
 
 slice-aggregate-only-child : tie.Need-slice-aggregate-only-child
 slice-aggregate-only-child c = search needs
@@ -40,7 +38,7 @@ numbers-requires : tie.Need-numbers-requires
 numbers-requires c κs = search needs
 
 returns-2 : tie.Need-returns-2
-returns-2 c = λ root so held. let x = child-is _ _ _ root so held _ _ (place-is (c .before .before .before .before .before .before .before .before .only-child .ensures) (c .before .before .before .before .before .before .child .given .1)) in c .numbers .ensures ∙ numbers-same (c .before .before .no-number .ensures) (c .before .number-value .ensures ∙ ap (numberValue _ linkLimits _) (value-is _ _ _ (x .child .tag) (c .before .before .before .attribute .ensures) (x .end))) ∙ went _ (x .only)
+returns-2 c = λ root so held. let x = child-is _ _ _ root so held _ _ (place-is (c .before .before .before .before .before .before .before .before .only-child .ensures) (c .before .before .before .before .before .before .child .given .1)) in c .numbers .ensures ∙ numbers-same (c .before .before .no-number .ensures) (c .before .number-value .ensures ∙ ap (numberValue _ _) (value-is _ _ _ (x .child .tag) (c .before .before .before .attribute .ensures) (x .end))) ∙ went _ (x .only)
 
 pub response-spec : {M : Type 1} → statement M
 response-spec =

@@ -2,10 +2,9 @@
 use borrow.Author.Needs.{needs}
 use Rattle.reader.proofs.messages.session_ok.Statement.{statement}
 use Rattle.reader.proofs.messages.session_ok.Tie as tie
-use mathlib.Core.Path.{_≡_, refl, sym, _∙_, ap}
+use mathlib.Core.Path.{sym, _∙_}
 use borrow.Author.Tests.{not-true, not-false}
-use Rattle.scan.proofs.Laws.{place-is, went}
-use Rattle.reader.proofs.Seven.{root-end, child-refused, child-is, value-is, value-missing, value-there, numbers-same, typed-none, typed-some}
+use Rattle.reader.proofs.Seven.{root-end, value-missing, value-there, numbers-same}
 
 name-end-requires : tie.Need-name-end-requires
 name-end-requires c κs = search needs

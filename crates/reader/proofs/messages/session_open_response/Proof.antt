@@ -2,14 +2,10 @@
 use borrow.Author.Needs.{needs}
 use Rattle.reader.proofs.messages.session_open_response.Statement.{statement}
 use Rattle.reader.proofs.messages.session_open_response.Tie as tie
-use mathlib.Core.Path.{_≡_, refl, sym, _∙_, ap}
+use mathlib.Core.Path.{sym, _∙_}
 use borrow.Author.Tests.{not-true, not-false}
-use Prim.Native.Nat.{ℕ, _-_}
-use Rattle.scan.proofs.Laws.{place-is, went, stopped}
-use Rattle.reader.specs.Limits.{linkLimits}
-use Rattle.reader.specs.Elements.{elementAt}
-use Rattle.reader.specs.Messages.{numberValue}
-use Rattle.reader.proofs.Seven.{root-end, child-refused, child-is, value-is, value-missing, value-there, message-same, typed-none, typed-some}
+use Prim.Native.Nat.{_-_}
+use Rattle.reader.proofs.Seven.{root-end, value-missing, value-there, message-same}
 
 name-end-requires : tie.Need-name-end-requires
 name-end-requires c κs = search needs

@@ -2,7 +2,7 @@
 use borrow.Author.Needs.{needs}
 use Rattle.reader.proofs.messages.type_value.Statement.{statement}
 use Rattle.reader.proofs.messages.type_value.Tie as tie
-use mathlib.Core.Path.{refl, sym, _∙_, ap}
+use mathlib.Core.Path.{sym, _∙_, ap}
 use Rattle.reader.specs.Seen.{toldSaid}
 use Rattle.reader.proofs.Seven.{type-unread, type-read}
 
