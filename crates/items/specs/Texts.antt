@@ -1,0 +1,56 @@
+-- Document 01, "The listing": the words that the lines are made of, and numbers in decimal. Assumes nothing.
+use Prim.Native.Nat.{ℕ, suc, _^_}
+use mathlib.Core.List.{List, [], _∷_, _++_}
+use lib.Dec.{ltb}
+use Rattle.laws.specs.Search.{least}
+use Rattle.io.specs.Digits.{digits}
+use Rattle.reader.specs.declared.Kind.{Kind}
+use Rattle.reader.specs.declared.Kind.the-variants as kinds
+use Rattle.reader.specs.Words as words
+
+-- what stands behind a field: a space, or the LF of its line
+abbrev pub space : ℕ
+space = 32
+
+abbrev pub lineEnd : ℕ
+lineEnd = 10
+
+-- a field and what stands behind it
+abbrev pub field : List ℕ → ℕ → List ℕ
+field text behind = text ++ (behind ∷ [])
+
+-- the fewest digits, and no fewer than one, that hold n
+unfoldable pub places : ℕ → ℕ
+places n = suc (least (λ k. ltb n (10 ^ suc k)) n)
+
+-- a number in decimal, without leading zeros
+unfoldable pub decimal : ℕ → List ℕ
+unfolding places
+decimal n = digits 10 (places n) n
+
+-- `item bytes kind refusal place`
+abbrev pub headerWords : List ℕ
+headerWords =
+    105 ∷ 116 ∷ 101 ∷ 109 ∷ 32 ∷ 98 ∷ 121 ∷ 116 ∷ 101 ∷ 115 ∷ 32 ∷ 107 ∷ 105 ∷ 110 ∷ 100 ∷ 32 ∷ 114 ∷ 101 ∷ 102 ∷ 117 ∷ 115 ∷ 97 ∷ 108 ∷ 32 ∷ 112 ∷ 108 ∷ 97 ∷ 99 ∷ 101 ∷ []
+
+-- `stop`
+abbrev pub stopWord : List ℕ
+stopWord = 115 ∷ 116 ∷ 111 ∷ 112 ∷ []
+
+-- `end`
+abbrev pub endWord : List ℕ
+endWord = 101 ∷ 110 ∷ 100 ∷ []
+
+-- `-`, for what is not there
+abbrev pub dash : List ℕ
+dash = 45 ∷ []
+
+-- the name of a kind
+abbrev pub kindName : Kind → List ℕ
+kindName kinds.SessionOpenRequest = words.sessionOpenRequest
+kindName kinds.SessionOpenResponse = words.sessionOpenResponse
+kindName kinds.SessionOk = words.sessionOk
+kindName kinds.Ok = words.ok
+kindName kinds.Advisory = words.advisory
+kindName kinds.Request = words.request
+kindName kinds.Response = words.response
