@@ -111,7 +111,8 @@ impl Advice {
     }
 }
 
-// A value: whether it is there, where it stands in the message, and what it means. A value that is not there, or that the kind does not have, is 0 and 0.
+// A value: whether it is there, where it stands in the message, and what it means. A value that is not there, or that the kind does
+// not have, is 0 and 0.
 pub struct NumberValue {
     pub there: bool,
     pub place: usize,
@@ -157,7 +158,8 @@ pub(crate) struct Inside {
     pub(crate) nested: usize,
 }
 
-// An element that has been read: where its name begins, where its content stands, the place behind it, and its name's place again if it is an AdvisoryType.
+// An element that has been read: where its name begins, where its content stands, the place behind it, and its name's place again if
+// it is an AdvisoryType.
 pub(crate) struct Seen {
     pub(crate) begin: usize,
     pub(crate) from: usize,
