@@ -4,27 +4,19 @@
 Also that docs/DEMANDS.md leaves nothing out: each must-fail edit and each statement of a crate's specs/Promises.antt is cited there.
 The last line is 'N passed, M failed'; the exit status is 0 only if nothing failed.
 """
-import glob
 import os
 import re
 import sys
 
-TOP = os.path.dirname(os.path.dirname(os.path.abspath(__file__)))
+from reporting import TOP, files, must_fail_edits, read, report
+
 LINK = re.compile(r"\[([^\]]*)\]\(([^)\s]+)\)")
 NAME = re.compile(r"`([^`\s]+)`$")
 STATEMENT = re.compile(r"^abbrev pub (\w+) : Type 0$", re.MULTILINE)
 
 
-def read(path):
-    with open(path, encoding="utf-8") as file:
-        return file.read()
-
-
 def documents():
-    found = [os.path.join(TOP, "README.md")]
-    for folder in ("docs", "bench"):
-        found += glob.glob(os.path.join(TOP, folder, "**", "*.md"), recursive=True)
-    return sorted(found)
+    return sorted([os.path.join(TOP, "README.md")] + files("docs", "**", "*.md") + files("bench", "**", "*.md"))
 
 
 def has_name(path, name):
@@ -33,44 +25,31 @@ def has_name(path, name):
     return re.search(r"(?<![\w-])" + re.escape(name) + r"(?![\w-])", read(path)) is not None
 
 
-def fault_of_link(document, text, target):
+def faults_of_link(document, text, target):
     path = os.path.normpath(os.path.join(os.path.dirname(document), target))
     if not os.path.exists(path):
-        return "there is no " + target
+        return ["there is no " + target]
     name = NAME.match(text)
     if name and os.path.isfile(path) and not has_name(path, name.group(1)):
-        return "%s has no %s" % (target, name.group(1))
-    return None
+        return ["%s has no %s" % (target, name.group(1))]
+    return []
 
 
 def faults_of_links():
     for document in documents():
         for text, target in LINK.findall(read(document)):
             if not re.match(r"[a-z]+:|#", target):
-                yield os.path.relpath(document, TOP), fault_of_link(document, text, target)
+                yield os.path.relpath(document, TOP), faults_of_link(document, text, target)
 
 
 def faults_of_omission():
     demands = read(os.path.join(TOP, "docs", "DEMANDS.md"))
-    edits = glob.glob(os.path.join(TOP, "crates", "*", "must-fail", "*.edit"))
-    for edit in sorted(edits):
+    for edit in must_fail_edits():
         cited = os.path.relpath(edit, TOP)
-        yield "docs/DEMANDS.md", None if cited in demands else "does not cite " + cited
-    for promises in sorted(glob.glob(os.path.join(TOP, "crates", "*", "specs", "Promises.antt"))):
+        yield "docs/DEMANDS.md", [] if cited in demands else ["does not cite " + cited]
+    for promises in files("crates", "*", "specs", "Promises.antt"):
         for statement in STATEMENT.findall(read(promises)):
-            yield "docs/DEMANDS.md", None if "`%s`" % statement in demands else "does not cite " + statement
+            yield "docs/DEMANDS.md", [] if "`%s`" % statement in demands else ["does not cite " + statement]
 
 
-def main():
-    passed = failed = 0
-    for document, fault in [*faults_of_links(), *faults_of_omission()]:
-        if fault is None:
-            passed += 1
-        else:
-            failed += 1
-            print("FAILED %s: %s" % (document, fault))
-    print("%d passed, %d failed" % (passed, failed))
-    return 1 if failed or not passed else 0
-
-
-sys.exit(main())
+sys.exit(report([*faults_of_links(), *faults_of_omission()]))

@@ -6,12 +6,12 @@ not because something that it cites was refused. An edit whose name begins both_
 nothing of the code may be refused for a reason of its own. And no edit may only have made a proof unfit for the code's shape.
 The last line is 'N passed, M failed'; the exit status is 0 only if nothing failed.
 """
-import glob
 import os
 import re
 import sys
 
-TOP = os.path.dirname(os.path.dirname(os.path.abspath(__file__)))
+from reporting import TOP, must_fail_edits, read, report
+
 AT = re.compile(r"^at: (\S+) (\S+)$", re.MULTILINE)
 ERROR = re.compile(r"((?:src|specs|proofs)/\S+?):\d+:\d+: error: `([^`]+)`: (.*)")
 UNPROVED = re.compile(r"note: \S*?((?:src)/\S+?):\d+:\d+: it is not proved .*\(`([^`]+)`\)")
@@ -45,22 +45,12 @@ def faults(label, edit, log):
         yield "it only made a proof unfit for the code"
 
 
-def read(path):
-    with open(path, encoding="utf-8") as file:
-        return file.read()
-
-
-def main():
-    passed = failed = 0
-    for path in sorted(glob.glob(os.path.join(TOP, "crates", "*", "must-fail", "*.edit"))):
+def faults_of_edits():
+    for path in must_fail_edits():
         crate, label = path.split(os.sep)[-3], os.path.splitext(os.path.basename(path))[0]
         log = os.path.join(TOP, "target", "must-fail", crate, label, ".log")
         found = list(faults(label, read(path), read(log))) if os.path.exists(log) else ["it was not tried"]
-        passed, failed = passed + (not found), failed + bool(found)
-        for fault in found:
-            print("FAILED %s/%s: %s" % (crate, label, fault))
-    print("%d passed, %d failed" % (passed, failed))
-    return 1 if failed or not passed else 0
+        yield crate + "/" + label, found
 
 
-sys.exit(main())
+sys.exit(report(faults_of_edits()))

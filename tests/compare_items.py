@@ -17,10 +17,10 @@ import sys
 import tempfile
 import threading
 
-TESTS = os.path.dirname(os.path.abspath(__file__))
-sys.path.insert(0, os.path.join(TESTS, "independent"))
+sys.path.insert(0, os.path.join(os.path.dirname(os.path.abspath(__file__)), "independent"))
 
-from checks import Difference, Tally, equal  # noqa: E402
+from checks import Difference, equal  # noqa: E402
+from comparison import parser_of_comparison, random_numbers, run_and_count  # noqa: E402
 from listing import listing  # noqa: E402
 from listing_cases import BY_HAND, cut_at_random, long_input, random_input  # noqa: E402
 from reader_vector_text import message_to_text  # noqa: E402
@@ -120,32 +120,20 @@ def run_random(tally, command, seed, numbers):
 
 
 def read_arguments():
-    parser = argparse.ArgumentParser(description="Holds the listing program against the independent model.")
-    parser.add_argument("--cases", type=int, default=DEFAULT_CASES, help="random streams (%(default)s)")
-    parser.add_argument("--seed", type=int, help="seed of the random streams (a fresh one)")
-    parser.add_argument("--case", type=int, help="run this random stream alone")
+    parser = parser_of_comparison("Holds the listing program against the independent model.", "stream", DEFAULT_CASES)
     parser.add_argument("command", nargs=argparse.REMAINDER, metavar="PROGRAM ..", help="what runs the program")
     arguments = parser.parse_args()
     if not arguments.command:
         parser.error("no program is given")
-    if arguments.seed is None:
-        arguments.seed = random.SystemRandom().randrange(10**9)
     return arguments
 
 
-def main():
-    arguments = read_arguments()
-    print("seed %d" % arguments.seed, flush=True)
-    tally = Tally()
-    if arguments.case is not None:
-        run_random(tally, arguments.command, arguments.seed, [arguments.case])
-    else:
+def run_all(arguments, tally):
+    if arguments.case is None:
         run_by_hand(tally, arguments.command)
         run_long_stream(tally, arguments.command, arguments.seed)
-        run_random(tally, arguments.command, arguments.seed, range(arguments.cases))
-    print("%d passed, %d failed" % (tally.passed, tally.failed))
-    return 1 if tally.failed else 0
+    run_random(tally, arguments.command, arguments.seed, random_numbers(arguments))
 
 
 if __name__ == "__main__":
-    sys.exit(main())
+    sys.exit(run_and_count(read_arguments(), run_all))

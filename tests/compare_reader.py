@@ -10,16 +10,15 @@ of each answer. A difference is printed with what repeats it. The random part co
 a kind or a meaning never came. The last line is `N passed, M failed`; the exit status is 0 only if nothing failed.
 """
 
-import argparse
 import collections
 import os
 import random
 import sys
 
-TESTS = os.path.dirname(os.path.abspath(__file__))
-sys.path.insert(0, os.path.join(TESTS, "independent"))
+sys.path.insert(0, os.path.join(os.path.dirname(os.path.abspath(__file__)), "independent"))
 
-from checks import Difference, GivenUp, RealCode, Tally, compare_vectors_made_again, vectors_of  # noqa: E402
+from checks import Difference  # noqa: E402
+from comparison import DriverComparison  # noqa: E402
 from make_reader_vectors import vectors_text  # noqa: E402
 from read_driver import PLACES_NEEDED, ReadDriver, check_call, check_message  # noqa: E402
 from reader_answer import VALUES, kind_name  # noqa: E402
@@ -28,7 +27,6 @@ from reader_cases import random_case, random_places  # noqa: E402
 from reader_self_tests import all_self_tests  # noqa: E402
 from reader_vector_text import vector_from_text  # noqa: E402
 
-DEFAULT_CASES = 12000
 CASES_THAT_MEET_ALL = 4000  # with fewer, something rare may be missing by mere chance
 
 # Everything that has to come up in the random part.
@@ -57,6 +55,11 @@ def things_met(answer, places):
     return met
 
 
+def run_vector(driver, line):
+    vector = vector_from_text(line)
+    check_call(driver, vector.message, vector.answer)
+
+
 def run_random_case(driver, met, seed, number):
     rng = random.Random("%d/%d" % (seed, number))
     message, places = random_case(number)(rng), random_places(rng)
@@ -67,25 +70,6 @@ def check_all_met(met):
     missing = [thing for thing in TO_MEET if not met[thing]]
     if missing:
         raise Difference("never met: " + ", ".join(missing))
-
-
-def run_self_tests(tally, lines):
-    tally.begin("the model's own tests")
-    for name, test in all_self_tests(lines):
-        tally.run("model: " + name, test)
-    tally.run("vectors made again", lambda: compare_vectors_made_again(vectors_text().splitlines(), lines))
-    tally.end()
-
-
-def run_vectors(tally, real, lines):
-    """What a line says is expected; the model is not asked."""
-    tally.begin("fixed vectors")
-    for line in lines:
-        def test(driver):
-            vector = vector_from_text(line)
-            check_call(driver, vector.message, vector.answer)
-        tally.run("vector " + line.split(" ", 1)[0], lambda: real.run(test))
-    tally.end()
 
 
 def run_beginnings(tally, real):
@@ -110,44 +94,10 @@ def run_random_cases(tally, real, seed, numbers):
     tally.end()
 
 
-def read_arguments():
-    parser = argparse.ArgumentParser(description="Holds ali_read against the independent reader model.")
-    parser.add_argument("driver", help="the driver, built over the archive under test")
-    parser.add_argument("--cases", type=int, default=DEFAULT_CASES, help="random messages (%(default)s)")
-    parser.add_argument("--seed", type=int, help="seed of the random messages (a fresh one)")
-    parser.add_argument("--case", type=int, help="run this random message alone")
-    arguments = parser.parse_args()
-    if not os.path.isfile(arguments.driver):
-        parser.error("there is no program %s" % arguments.driver)
-    if arguments.seed is None:
-        arguments.seed = random.SystemRandom().randrange(10**9)
-    return arguments
-
-
-def run_all(arguments, tally):
-    real = RealCode(arguments.driver, ReadDriver)
-    try:
-        if arguments.case is not None:
-            run_random_cases(tally, real, arguments.seed, [arguments.case])
-        else:
-            lines = vectors_of("reader.txt")
-            run_self_tests(tally, lines)
-            run_vectors(tally, real, lines)
-            run_beginnings(tally, real)
-            run_random_cases(tally, real, arguments.seed, range(arguments.cases))
-        tally.run("the driver's end", real.close)
-    except GivenUp:
-        print("given up; the tests that were left did not run")
-
-
-def main():
-    arguments = read_arguments()
-    print("seed %d" % arguments.seed, flush=True)
-    tally = Tally()
-    run_all(arguments, tally)
-    print("%d passed, %d failed" % (tally.passed, tally.failed))
-    return 1 if tally.failed else 0
-
+COMPARISON = DriverComparison(
+    description="Holds ali_read against the independent reader model.", thing="message", cases=12000, start=ReadDriver,
+    vectors="reader.txt", vectors_text=vectors_text, self_tests=all_self_tests, run_vector=run_vector,
+    run_exhaustive=run_beginnings, run_random_cases=run_random_cases)
 
 if __name__ == "__main__":
-    sys.exit(main())
+    sys.exit(COMPARISON.main())

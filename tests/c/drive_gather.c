@@ -57,19 +57,6 @@ static struct range changed(const struct block *block)
     return found;
 }
 
-/* Lends `length` bytes of the input. What stands around them is more boundary, so that a call that reads too far sees
- * something to match. */
-static void lend_input(struct block *block, size_t length, const uint8_t *bait, size_t bait_length)
-{
-    block->length = length;
-    for (size_t i = 0; i < FENCE; i++) {
-        block->bytes[i] = bait_length ? bait[i % bait_length] : 0;
-        block->bytes[block->begin + length + i] = block->bytes[i];
-    }
-    read_bytes(lent(block), length);
-    remember(block);
-}
-
 static void report_store(struct block *store)
 {
     struct range range = changed(store);
@@ -87,15 +74,6 @@ static void report_store(struct block *store)
         memcpy(store->bytes, store->copy, watched(store));
 }
 
-static void report_answer(const struct block *answer)
-{
-    for (size_t i = 0; i < answer->length; i += sizeof(uint64_t)) {
-        uint64_t place;
-        memcpy(&place, lent(answer) + i, sizeof place);
-        write_number(place, sizeof place);
-    }
-}
-
 static void call(struct block *boundary, struct block *store, struct block *piece, struct block *answer)
 {
     size_t boundary_length = read_u8();
@@ -108,6 +86,7 @@ static void call(struct block *boundary, struct block *store, struct block *piec
         stop("a length is too big");
 
     lend_input(boundary, boundary_length, NULL, 0);
+    /* Around the piece stands more boundary: something to match. */
     lend_input(piece, piece_length, lent(boundary), boundary_length);
     lend_filled(answer, places * sizeof(uint64_t), answer_fill);
 
@@ -119,7 +98,7 @@ static void call(struct block *boundary, struct block *store, struct block *piec
     write_number((fence_changed(store) ? ALARM_STORE : 0) | (fence_changed(answer) ? ALARM_ANSWER : 0)
                      | (anything_changed(boundary) ? ALARM_BOUNDARY : 0) | (anything_changed(piece) ? ALARM_PIECE : 0),
                  1);
-    report_answer(answer);
+    write_places(answer, places);
     report_store(store);
 }
 

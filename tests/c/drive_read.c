@@ -31,14 +31,7 @@ static const char *const baits[] = {"n", "/>", "\"/>'/>", "-->", " "};
 static void lend_message(struct block *message, size_t length, uint32_t choice)
 {
     const char *bait = baits[choice % (sizeof baits / sizeof *baits)];
-    size_t bait_length = strlen(bait);
-    message->length = length;
-    for (size_t i = 0; i < FENCE; i++) {
-        message->bytes[i] = (uint8_t)bait[i % bait_length];
-        message->bytes[message->begin + length + i] = message->bytes[i];
-    }
-    read_bytes(lent(message), length);
-    remember(message);
+    lend_input(message, length, (const uint8_t *)bait, strlen(bait));
 }
 
 static int changed_beyond_written(const struct block *answer)
@@ -63,11 +56,7 @@ static void call(struct block *message, struct block *answer, size_t message_len
     write_number((changed_beyond_written(answer) ? ALARM_ANSWER : 0)
                      | (anything_changed(message) ? ALARM_MESSAGE : 0),
                  1);
-    for (size_t i = 0; i < PLACES_WRITTEN; i++) {
-        uint64_t place;
-        memcpy(&place, lent(answer) + i * sizeof place, sizeof place);
-        write_number(place, sizeof place);
-    }
+    write_places(answer, PLACES_WRITTEN);
 }
 
 int main(void)

@@ -126,4 +126,27 @@ static inline void lend_filled(struct block *block, size_t length, uint32_t seed
     remember(block);
 }
 
+/* Lends so many bytes of the input. The bait stands around them again and again, so that a call that reads too far
+ * finds something that it could go on with. */
+static inline void lend_input(struct block *block, size_t length, const uint8_t *bait, size_t bait_length)
+{
+    block->length = length;
+    for (size_t i = 0; i < FENCE; i++) {
+        block->bytes[i] = bait_length ? bait[i % bait_length] : 0;
+        block->bytes[block->begin + length + i] = block->bytes[i];
+    }
+    read_bytes(lent(block), length);
+    remember(block);
+}
+
+/* The first places of an answer list, as they are now. */
+static inline void write_places(const struct block *answer, size_t count)
+{
+    for (size_t i = 0; i < count; i++) {
+        uint64_t place;
+        memcpy(&place, lent(answer) + i * sizeof place, sizeof place);
+        write_number(place, sizeof place);
+    }
+}
+
 #endif

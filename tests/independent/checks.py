@@ -102,3 +102,8 @@ def compare_vectors_made_again(made, lines):
             raise Difference("line %d of the committed vectors is not what the maker makes" % number)
     if len(made) != len(lines):
         raise Difference("the maker makes %d vectors, %d are committed" % (len(made), len(lines)))
+
+
+def compare_vectors_written_again(lines, from_text, to_text):
+    for line in lines:
+        equal(to_text(from_text(line)), line, "the vector read and written again")

@@ -6,7 +6,7 @@ What is expected in `EXAMPLES`, `REFUSALS` and `CALLS` was written by hand from 
 import itertools
 import random
 
-from checks import equal
+from checks import compare_vectors_written_again, equal
 from driver import fill
 from framing import (COUNT_CAP, EMPTY, MESSAGE, MESSAGE_LIMIT, NO_ITEM, TOO_LONG, Item, end_of_boundary, gather,
                      items_of_stream, refusal_of)
@@ -112,11 +112,6 @@ def test_streams_by_chance(case, k):
         case(ModelLink(), random.Random("model/%s/%d/%d" % (case.__name__, k, number)), k)
 
 
-def test_vector_text(lines):
-    for line in lines:
-        equal(vector_to_text(vector_from_text(line)), line, "the vector read and written again")
-
-
 def all_self_tests(vector_lines):
     """Names and calls of all self-tests."""
     for number, example in enumerate(EXAMPLES, 1):
@@ -130,4 +125,5 @@ def all_self_tests(vector_lines):
     for case in STREAM_CASES:
         for k in range(1, 17):
             yield "%s, k %d" % (case.__name__, k), lambda case=case, k=k: test_streams_by_chance(case, k)
-    yield "vectors can be read", lambda: test_vector_text(vector_lines)
+    yield "vectors can be read", (
+        lambda: compare_vectors_written_again(vector_lines, vector_from_text, vector_to_text))

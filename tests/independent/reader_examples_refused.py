@@ -1,13 +1,17 @@
 """Refused messages, written by hand from the papers: every case that document 01 ("The restricted XML") and the rulings
 on the reader's places and precedence name. Nothing here was found by running anything.
 
-A line is a label, a message in which `{` stands before the place of refusal, and the number. Without a `{` the place
-is 0.
+A line is a label, a message in which `{` stands before the place of refusal, and the number, which is left out in
+groups where all are 9. Without a `{` the place is 0.
 """
 
 
 def attributes(many):
     return b"".join(b" a%d=''" % number for number in range(many))
+
+
+def not_well_formed(*lines):
+    return tuple((label, marked, 9) for label, marked in lines)
 
 
 FULL = b"<a" + attributes(16)  # a tag that has all the attributes it may have
@@ -129,49 +133,43 @@ NAMES = (
     ("end-tag-case", b"<a></{A>", 9),
 )
 
-REFERENCES = (
-    ("number-passes-hex", b"<a>&#x11000{0;</a>", 9), ("number-passes-decimal", b"<a>&#111411{2;</a>", 9),
-    ("number-passes-after-zeros", b"<a>&#x0000000011000{0;</a>", 9),
-    ("number-passes-far", b"<a>&#x41000{00041;</a>", 9),
-    ("number-0", b"<a>&#0{;</a>", 9), ("number-8", b"<a>&#8{;</a>", 9), ("number-31", b"<a>&#31{;</a>", 9),
-    ("number-x1F", b"<a>&#x1F{;</a>", 9), ("number-D800", b"<a>&#xD800{;</a>", 9),
-    ("number-DFFF", b"<a>&#57343{;</a>", 9),
-    ("number-FFFE", b"<a>&#xFFFE{;</a>", 9), ("number-FFFF", b"<a>&#65535{;</a>", 9),
-    ("number-zeros", b"<a>&#x000{;</a>", 9),
-    ("number-X", b"<a>&#{X37;</a>", 9), ("number-none", b"<a>&#{;</a>", 9), ("number-none-hex", b"<a>&#x{;</a>", 9),
-    ("number-letter", b"<a>&#5{a;</a>", 9), ("number-g", b"<a>&#x5{g;</a>", 9), ("number-sign", b"<a>&#{+5;</a>", 9),
-    ("number-space", b"<a>&#55{ ;</a>", 9), ("number-cut", b"<a>&#55{", 9), ("number-D800-cut", b"<a>&#xD800{", 9),
-    ("named-other", b"<a>&{nbsp;</a>", 9), ("named-upper", b"<a>&{AMP;</a>", 9), ("named-late", b"<a>&am{x;</a>", 9),
-    ("named-between", b"<a>&ap{p;</a>", 9), ("named-long", b"<a>&amp{x;</a>", 9), ("named-space", b"<a>&{ amp;</a>", 9),
-    ("named-none", b"<a>&{;</a>", 9), ("named-no-semicolon", b"<a>&amp{</a>", 9),
-    ("named-in-value", b"<a b='&l{'/>", 9),
-    ("named-two-ways", b"<a>&a{;</a>", 9), ("named-cut", b"<a>&{", 9),
+REFERENCES = not_well_formed(
+    ("number-passes-hex", b"<a>&#x11000{0;</a>"), ("number-passes-decimal", b"<a>&#111411{2;</a>"),
+    ("number-passes-after-zeros", b"<a>&#x0000000011000{0;</a>"), ("number-passes-far", b"<a>&#x41000{00041;</a>"),
+    ("number-0", b"<a>&#0{;</a>"), ("number-8", b"<a>&#8{;</a>"), ("number-31", b"<a>&#31{;</a>"),
+    ("number-x1F", b"<a>&#x1F{;</a>"), ("number-D800", b"<a>&#xD800{;</a>"), ("number-DFFF", b"<a>&#57343{;</a>"),
+    ("number-FFFE", b"<a>&#xFFFE{;</a>"), ("number-FFFF", b"<a>&#65535{;</a>"), ("number-zeros", b"<a>&#x000{;</a>"),
+    ("number-X", b"<a>&#{X37;</a>"), ("number-none", b"<a>&#{;</a>"), ("number-none-hex", b"<a>&#x{;</a>"),
+    ("number-letter", b"<a>&#5{a;</a>"), ("number-g", b"<a>&#x5{g;</a>"), ("number-sign", b"<a>&#{+5;</a>"),
+    ("number-space", b"<a>&#55{ ;</a>"), ("number-cut", b"<a>&#55{"), ("number-D800-cut", b"<a>&#xD800{"),
+    ("named-other", b"<a>&{nbsp;</a>"), ("named-upper", b"<a>&{AMP;</a>"), ("named-late", b"<a>&am{x;</a>"),
+    ("named-between", b"<a>&ap{p;</a>"), ("named-long", b"<a>&amp{x;</a>"), ("named-space", b"<a>&{ amp;</a>"),
+    ("named-none", b"<a>&{;</a>"), ("named-no-semicolon", b"<a>&amp{</a>"), ("named-in-value", b"<a b='&l{'/>"),
+    ("named-two-ways", b"<a>&a{;</a>"), ("named-cut", b"<a>&{"),
 )
 
 # Bytes that are dead at once in text: controls, and what begins no character.
 DEAD_AT_ONCE = (*range(0x00, 0x09), 0x0B, 0x0C, *range(0x0E, 0x20), *range(0x80, 0xC2), *range(0xF5, 0x100))
-CHARACTERS = tuple(("byte-%02x" % byte, b"<a>{" + bytes([byte]), 9) for byte in DEAD_AT_ONCE) + (
-    ("utf8-e0-9f", b"<a>\xe0{\x9f\xbf", 9), ("utf8-ed-a0", b"<a>\xed{\xa0\x80", 9),
-    ("utf8-f0-8f", b"<a>\xf0{\x8f\xbf\xbf", 9),
-    ("utf8-f4-90", b"<a>\xf4{\x90\x80\x80", 9), ("utf8-fffe", b"<a>\xef\xbf{\xbe", 9),
-    ("utf8-ffff", b"<a>\xef\xbf{\xbf", 9),
-    ("utf8-cut-2", b"<a>\xc3{", 9), ("utf8-cut-3", b"<a>\xe2\x82{", 9), ("utf8-cut-4", b"<a>\xf0\x9f\x98{", 9),
-    ("utf8-broken-2", b"<a>\xc3{<", 9), ("utf8-broken-3", b"<a>\xe2\x82{x", 9),
-    ("utf8-broken-4", b"<a>\xf0\x9f\x98{\xc3", 9),
-    ("utf8-in-value", b"<a b='\xe0{\x9f", 9), ("utf8-in-comment", b"<!--\xed{\xa0", 9),
-    ("bom", b"{\xef\xbb\xbf<a/>", 9),
-    ("bom-after-space", b" {\xef\xbb\xbf<a/>", 9), ("utf-16", b"{\xff\xfe<\0", 9),
-    ("space-not-ascii", b"<a{\xc2\xa0/>", 9),
+CHARACTERS = not_well_formed(
+    *(("byte-%02x" % byte, b"<a>{" + bytes([byte])) for byte in DEAD_AT_ONCE),
+    ("utf8-e0-9f", b"<a>\xe0{\x9f\xbf"), ("utf8-ed-a0", b"<a>\xed{\xa0\x80"),
+    ("utf8-f0-8f", b"<a>\xf0{\x8f\xbf\xbf"), ("utf8-f4-90", b"<a>\xf4{\x90\x80\x80"),
+    ("utf8-fffe", b"<a>\xef\xbf{\xbe"), ("utf8-ffff", b"<a>\xef\xbf{\xbf"),
+    ("utf8-cut-2", b"<a>\xc3{"), ("utf8-cut-3", b"<a>\xe2\x82{"), ("utf8-cut-4", b"<a>\xf0\x9f\x98{"),
+    ("utf8-broken-2", b"<a>\xc3{<"), ("utf8-broken-3", b"<a>\xe2\x82{x"), ("utf8-broken-4", b"<a>\xf0\x9f\x98{\xc3"),
+    ("utf8-in-value", b"<a b='\xe0{\x9f"), ("utf8-in-comment", b"<!--\xed{\xa0"),
+    ("bom", b"{\xef\xbb\xbf<a/>"), ("bom-after-space", b" {\xef\xbb\xbf<a/>"), ("utf-16", b"{\xff\xfe<\0"),
+    ("space-not-ascii", b"<a{\xc2\xa0/>"),
 )
 
-TEXT = (
-    ("brackets", b"<a>]]{></a>", 9), ("brackets-three", b"<a>]]]{></a>", 9), ("brackets-later", b"<a>x]]y]]{></a>", 9),
-    ("brackets-after-reference", b"<a>&amp;]]{></a>", 9), ("brackets-after-parted", b"<a>]]<b/>]]{></a>", 9),
-    ("comment-hyphens", b"<!-- --{ --><a/>", 9), ("comment-three", b"<!----{->", 9),
-    ("comment-three-late", b"<!--x--{-><a/>", 9), ("comment-open", b"<!--->{", 9), ("comment-open-2", b"<!-->{", 9),
-    ("comment-one-hyphen", b"<!-{x--><a/>", 9), ("comment-cut", b"<!--x--{", 9),
-    ("comment-control", b"<!--{\x01--><a/>", 9),
-    ("comment-in-tag", b"<a {<!-- -->/>", 9), ("comment-in-end-tag", b"<a></a{<!-- -->>", 9),
+TEXT = not_well_formed(
+    ("brackets", b"<a>]]{></a>"), ("brackets-three", b"<a>]]]{></a>"), ("brackets-later", b"<a>x]]y]]{></a>"),
+    ("brackets-after-reference", b"<a>&amp;]]{></a>"), ("brackets-after-parted", b"<a>]]<b/>]]{></a>"),
+    ("comment-hyphens", b"<!-- --{ --><a/>"), ("comment-three", b"<!----{->"),
+    ("comment-three-late", b"<!--x--{-><a/>"), ("comment-open", b"<!--->{"), ("comment-open-2", b"<!-->{"),
+    ("comment-one-hyphen", b"<!-{x--><a/>"), ("comment-cut", b"<!--x--{"),
+    ("comment-control", b"<!--{\x01--><a/>"), ("comment-in-tag", b"<a {<!-- -->/>"),
+    ("comment-in-end-tag", b"<a></a{<!-- -->>"),
 )
 
 LEVELS = (

@@ -5,7 +5,7 @@ The hand-written examples, brute force over small alphabets and about random mes
 
 import random
 
-from checks import Difference, equal
+from checks import Difference, compare_vectors_written_again, equal
 from reader import first_refusal, read_message, run_machine
 from reader_answer import NUMBERS
 from reader_brute_force import CONTEXTS, check_context, check_dead, check_every_prefix
@@ -72,11 +72,6 @@ def test_meanings_by_expat(make, many):
             compare_meanings(message, read_message(message))
 
 
-def test_vector_text(lines):
-    for line in lines:
-        equal(vector_to_text(vector_from_text(line)), line, "the vector read and written again")
-
-
 def hand_written():
     for label, message, refusal, place in refused_examples():
         yield "example " + label, lambda given=(message, refusal, place): test_refused(*given)
@@ -109,4 +104,5 @@ def all_self_tests(vector_lines):
     yield from hand_written()
     yield from by_brute_force()
     yield from by_second_opinion()
-    yield "vectors can be read", lambda: test_vector_text(vector_lines)
+    yield "vectors can be read", (
+        lambda: compare_vectors_written_again(vector_lines, vector_from_text, vector_to_text))

@@ -13,6 +13,7 @@ import re
 from typing import NamedTuple
 
 from reader_answer import KINDS, NOT_THERE, VALUES, Answer, Value, kind_name, refused
+from vector_text import fields
 
 REPETITION = re.compile(rb"(.{1,16}?)\1{9,}", re.DOTALL)
 ESCAPED = re.compile(rb"[^ -\[\]-~]")
@@ -67,12 +68,7 @@ def answer_to_text(answer):
 
 
 def answer_from_text(text):
-    found = {}
-    for word in text.split(" "):
-        name, value = word.split("=")
-        if name in found:
-            raise ValueError("a name stands twice in %r" % text)
-        found[name] = value
+    found = fields(text.split(" "))
     if "refusal" in found:
         return refused(int(found.pop("refusal")), int(found.pop("place")))
     kind = KINDS.index(found.pop("kind")) + 1
