@@ -2,8 +2,10 @@
 """Checks why each must-fail edit was refused, in the logs that `rt ci` or `rt must-fail` left below target/must-fail/.
 
 An edit says where it has to be refused, by a line 'at: FILE NAME': the prover must have refused NAME in FILE for a reason of its own, and
-not because something that it cites was refused. An edit whose name begins both_ or stream_ leaves code and contracts in agreement, so
-nothing of the code may be refused for a reason of its own. And no edit may only have made a proof unfit for the code's shape.
+not because something that it cites was refused. Edits of functions that have nothing to do with each other may share a file, each after a
+line 'edit: NAME': a proof looks at the function's own code and at the contracts of what it calls, so one check tries them all. An edit
+whose file's name begins both_ or stream_ leaves code and contracts in agreement, so nothing of the code may be refused for a reason of its
+own. And no edit may only have made a proof unfit for the code's shape.
 The last line is 'N passed, M failed'; the exit status is 0 only if nothing failed.
 """
 import os
@@ -13,6 +15,7 @@ import sys
 from reporting import TOP, must_fail_edits, read, report
 
 AT = re.compile(r"^at: (\S+) (\S+)$", re.MULTILINE)
+EDIT = re.compile(r"^edit: (\S+)$", re.MULTILINE)
 ERROR = re.compile(r"((?:src|specs|proofs)/\S+?):\d+:\d+: error: `([^`]+)`: (.*)")
 UNPROVED = re.compile(r"note: \S*?((?:src)/\S+?):\d+:\d+: it is not proved .*\(`([^`]+)`\)")
 FOLLOWS = "was not admitted"
@@ -29,14 +32,27 @@ def of_the_code(file):
     return file.startswith("src/") or file.endswith("/Proof.antt")
 
 
-def faults(label, edit, log):
+def edits_of(label, text):
+    """(name, text) of each edit of a file; a file with no line 'edit: NAME' is one edit."""
+    pieces = EDIT.split(text)
+    if len(pieces) == 1:
+        return [(label, text)]
+    return [(label + "/" + name, piece) for name, piece in zip(pieces[1::2], pieces[2::2])]
+
+
+def faults_of_places(edit, found):
     wanted = AT.findall(edit)
-    found = refusals(log)
     if not wanted:
         yield "it does not say where it has to be refused"
     for place in wanted:
         if place not in found:
             yield "not refused at %s of %s, but at %s" % (place[1], place[0], sorted(found))
+
+
+def faults_of_file(label, edits, found, log):
+    proofs = [file for _, edit in edits for file in {file for file, _ in AT.findall(edit)} if not file.startswith("src/")]
+    for file in sorted({file for file in proofs if proofs.count(file) > 1}):
+        yield "two of its edits are refused in %s, so one may hide the other" % file
     if label.startswith(("both_", "stream_")):
         for file, name in sorted(found):
             if of_the_code(file):
@@ -48,9 +64,14 @@ def faults(label, edit, log):
 def faults_of_edits():
     for path in must_fail_edits():
         crate, label = path.split(os.sep)[-3], os.path.splitext(os.path.basename(path))[0]
-        log = os.path.join(TOP, "target", "must-fail", crate, label, ".log")
-        found = list(faults(label, read(path), read(log))) if os.path.exists(log) else ["it was not tried"]
-        yield crate + "/" + label, found
+        log_path = os.path.join(TOP, "target", "must-fail", crate, label, ".log")
+        tried = os.path.exists(log_path)
+        log = read(log_path) if tried else ""
+        found = refusals(log)
+        edits = edits_of(label, read(path))
+        of_the_file = list(faults_of_file(label, edits, found, log)) if tried else ["it was not tried"]
+        for name, edit in edits:
+            yield crate + "/" + name, of_the_file + list(faults_of_places(edit, found))
 
 
 sys.exit(report(faults_of_edits()))

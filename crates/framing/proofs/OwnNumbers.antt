@@ -1,7 +1,7 @@
 -- THEOREM `own-numbers-accepted`: the numbers that a call hands back are never refused by the next. Assumes nothing.
 use mathlib.Core.Path.{_≡_, refl, sym}
 use mathlib.Core.Bool.{Bool, true, false}
-use Prim.Native.Nat.{ℕ, _-_, _≤_, _<_}
+use Prim.Native.Nat.{ℕ, _≤_, _<_}
 use native.Mathlib.Omega.{arith}
 use lib.ListN.{length}
 use Rattle.framing.specs.Cutting.{refusalOf, cutOf, answered, answerOf}

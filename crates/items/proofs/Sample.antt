@@ -6,15 +6,15 @@ use Rattle.laws.specs.Bytes.{sameBytes, endsWith}
 use Rattle.laws.specs.Search.{least}
 use Rattle.framing.specs.Cutting.{itemEnd}
 use Rattle.framing.specs.Stream.{itemOfPart}
-use Rattle.scan.specs.Characters.{twoAt, threeAt, lastTwoAt, fourAt, longAt, digitsAt, numberedAt, standsAt, predefinedAt, referenceAt}
-use Rattle.scan.specs.Class.{classOf}
-use Rattle.scan.specs.Markup.{utf8At, bangAt, aroundAt, encodingAt, declarationAt}
-use Rattle.scan.specs.Names.{shortAt, partAt, nameAt}
-use Rattle.scan.specs.Reading.{has, one, span, ends, upTo, wordAt, equalsAt, openedAt, closedAt}
-use Rattle.scan.specs.Text.{specialAt, bracketAt, beyondPlainInAt, beyondPlainAt, beyondNoteAt, textAt, valueAt, commentAt}
-use Rattle.reader.specs.Elements.{startEndAt, endAt, quotedAt, freeAt, tooDeepAt, declaredOf, freshAt, attributesAt, withNameAt, startAt, endPartAt, endNameAt, endTagAt, contentAt, restAt, elementAt, rootAt, documentAt}
-use Rattle.reader.specs.Messages.{kindOf, attributeCalled, messageAt}
-use Rattle.reader.specs.Values.{letterAt, attributeLetterAt, textLetterAt, attributeMeaning, contentMeaning, decimalFrom, decimalOf}
+use Rattle.message.specs.Characters.{twoAt, threeAt, lastTwoAt, fourAt, longAt, digitsAt, numberedAt, standsAt, predefinedAt, referenceAt}
+use Rattle.message.specs.Class.{classOf}
+use Rattle.message.specs.Markup.{utf8At, bangAt, aroundAt, encodingAt, declarationAt}
+use Rattle.message.specs.Names.{shortAt, partAt, nameAt}
+use Rattle.message.specs.Reading.{has, one, span, ends, upTo, wordAt, equalsAt, openedAt, closedAt}
+use Rattle.message.specs.Text.{specialAt, bracketAt, beyondPlainInAt, beyondPlainAt, beyondNoteAt, textAt, valueAt, commentAt}
+use Rattle.message.specs.Elements.{startEndAt, endAt, quotedAt, freeAt, tooDeepAt, declaredOf, freshAt, attributesAt, withNameAt, startAt, endPartAt, endNameAt, endTagAt, contentAt, restAt, elementAt, rootAt, documentAt}
+use Rattle.message.specs.Messages.{kindOf, attributeCalled, messageAt}
+use Rattle.message.specs.Values.{letterAt, attributeLetterAt, textLetterAt, attributeMeaning, contentMeaning, decimalFrom, decimalOf}
 use Rattle.items.specs.Texts.{places, decimal}
 use Rattle.items.specs.Lines.{endLine, itemLine, messageLine}
 use Rattle.items.specs.Listing.{boundaryEnd, partsOf, waitingOf, cutLines, streamLines, listing}

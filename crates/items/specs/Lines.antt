@@ -2,12 +2,12 @@
 use Prim.Native.Nat.{ℕ, _+_}
 use mathlib.Core.List.{List, [], _++_}
 use lib.ListN.{length, take}
-use Rattle.scan.specs.Class.{classOf}
-use Rattle.scan.specs.Reading.{Reading}
-use Rattle.scan.specs.Reading.Reading.{whole, refused}
-use Rattle.reader.specs.Limits.{linkLimits}
-use Rattle.reader.specs.Messages.{messageOf}
-use Rattle.reader.specs.declared.Message.{Message}
+use Rattle.message.specs.Class.{classOf}
+use Rattle.message.specs.Reading.{Reading}
+use Rattle.message.specs.Reading.Reading.{whole, refused}
+use Rattle.message.specs.Limits.{linkLimits}
+use Rattle.message.specs.Messages.{messageOf}
+use Rattle.message.specs.declared.Message.{Message}
 use Rattle.framing.specs.declared.Item.{Item}
 use Rattle.framing.specs.declared.Item.the-variants.{NotYet, Empty, Message as Whole, TooLong}
 use Rattle.items.specs.Texts.{space, lineEnd, field, decimal, headerWords, stopWord, endWord, dash, kindName}

@@ -4,9 +4,9 @@ use mathlib.Core.List.{List, [], _∷_, _++_}
 use lib.Dec.{ltb}
 use Rattle.laws.specs.Search.{least}
 use Rattle.io.specs.Digits.{digits}
-use Rattle.reader.specs.declared.Kind.{Kind}
-use Rattle.reader.specs.declared.Kind.the-variants as kinds
-use Rattle.reader.specs.Words as words
+use Rattle.message.specs.declared.Kind.{Kind}
+use Rattle.message.specs.declared.Kind.the-variants as kinds
+use Rattle.message.specs.Words as words
 
 -- what stands behind a field: a space, or the LF of its line
 abbrev pub space : ℕ

@@ -1,10 +1,10 @@
 // The lines of the listing, each written to the start of a lent array. A line's length is answered.
 use crate::texts;
-use reader::Answer;
-use reader::Kind;
+use message::Answer;
+use message::Kind;
 ghost use mathlib.Core.Path.{_≡_};
 ghost use mathlib.Core.List.{_++_};
-ghost use Prim.Native.Nat.{_+_, _≤_, _<_};
+ghost use Prim.Native.Nat.{_+_, _≤_};
 ghost use lib.ListN.{length, take};
 ghost use Rattle.io.specs.Counts.{Counts};
 ghost use Rattle.items.specs.Texts.{space, lineEnd, field, decimal, dash, kindName};

@@ -1,5 +1,5 @@
 // Fields of a line, written into a lent array one behind the other.
-use reader::Kind;
+use message::Kind;
 ghost use mathlib.Core.Path.{_≡_};
 ghost use mathlib.Core.List.{_++_};
 ghost use Prim.Native.Nat.{_+_, _≤_, _<_};

@@ -12,16 +12,16 @@ use lib.ListN.{length, take, drop, replicate}
 use lib.Seq.{take-at}
 use borrow.Author.Tests.{ltb-true, ltb-false, lt-ltb, le-ltb}
 use Rattle.laws.proofs.OneAnswer.{one-answer}
-use Rattle.scan.specs.Class.{classOf}
-use Rattle.scan.specs.Reading.{Reading}
-use Rattle.scan.specs.Reading.Reading.{whole, refused}
-use Rattle.reader.specs.Limits.{linkLimits}
-use Rattle.reader.specs.Messages.{messageOf, message, noNumber, noStatus, noType}
-use Rattle.reader.specs.declared.Kind.the-variants as kinds
-use Rattle.reader.specs.declared.Number.the-variants.{Nothing, Names}
-use Rattle.reader.specs.declared.Status.the-variants as statuses
-use Rattle.reader.specs.declared.Advice.the-variants as advices
-use Rattle.reader.specs.declared.Message.{Message}
+use Rattle.message.specs.Class.{classOf}
+use Rattle.message.specs.Reading.{Reading}
+use Rattle.message.specs.Reading.Reading.{whole, refused}
+use Rattle.message.specs.Limits.{linkLimits}
+use Rattle.message.specs.Messages.{messageOf, message, noNumber, noStatus, noType}
+use Rattle.message.specs.declared.Kind.the-variants as kinds
+use Rattle.message.specs.declared.Number.the-variants.{Nothing, Names}
+use Rattle.message.specs.declared.Status.the-variants as statuses
+use Rattle.message.specs.declared.Advice.the-variants as advices
+use Rattle.message.specs.declared.Message.{Message}
 use Rattle.line.specs.Lists.{tooShort, written}
 use Rattle.line.specs.Refusals.{DueForRead, short, enough}
 use Rattle.line.specs.Read.{numberNumbers, statusNumbers, typeNumbers, messageNumbers, refusalNumbers, readNumbers, readReturn, readList}

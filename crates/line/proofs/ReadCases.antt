@@ -4,11 +4,11 @@ use mathlib.Core.Path.{_≡_}
 use mathlib.Core.Bool.{true, false}
 use mathlib.Core.List.{List, [], _∷_, _++_}
 use Prim.Native.Nat.{ℕ}
-use Rattle.scan.specs.Class.{classOf}
-use Rattle.scan.specs.Reading.{Reading}
-use Rattle.reader.specs.Limits.{linkLimits}
-use Rattle.reader.specs.Messages.{messageOf, kindNumber}
-use Rattle.reader.specs.declared.Message.{Message}
+use Rattle.message.specs.Class.{classOf}
+use Rattle.message.specs.Reading.{Reading}
+use Rattle.message.specs.Limits.{linkLimits}
+use Rattle.message.specs.Messages.{messageOf, kindNumber}
+use Rattle.message.specs.declared.Message.{Message}
 use Rattle.line.specs.Lists.{tooShort, written, placed}
 use Rattle.line.specs.Read.{numberNumbers, statusNumbers, typeNumbers, messageNumbers, readNumbers, readReturn, readList}
 use Rattle.line.proofs.Written.{written-on}

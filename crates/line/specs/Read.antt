@@ -3,16 +3,16 @@ use Prim.Native.Nat.{ℕ}
 use mathlib.Core.Bool.{Bool, cond}
 use mathlib.Core.List.{List, [], _∷_, _++_}
 use lib.ListN.{replicate}
-use Rattle.scan.specs.Class.{classOf}
-use Rattle.scan.specs.Reading.{Reading}
-use Rattle.scan.specs.Reading.Reading.{whole, refused}
-use Rattle.reader.specs.Limits.{linkLimits}
-use Rattle.reader.specs.Messages.{messageOf, kindNumber}
-use Rattle.reader.specs.Values.{numberFlag, numberNamed, statusNumber, adviceNumber}
-use Rattle.reader.specs.declared.NumberValue.{NumberValue}
-use Rattle.reader.specs.declared.StatusValue.{StatusValue}
-use Rattle.reader.specs.declared.TypeValue.{TypeValue}
-use Rattle.reader.specs.declared.Message.{Message}
+use Rattle.message.specs.Class.{classOf}
+use Rattle.message.specs.Reading.{Reading}
+use Rattle.message.specs.Reading.Reading.{whole, refused}
+use Rattle.message.specs.Limits.{linkLimits}
+use Rattle.message.specs.Messages.{messageOf, kindNumber}
+use Rattle.message.specs.Values.{numberFlag, numberNamed, statusNumber, adviceNumber}
+use Rattle.message.specs.declared.NumberValue.{NumberValue}
+use Rattle.message.specs.declared.StatusValue.{StatusValue}
+use Rattle.message.specs.declared.TypeValue.{TypeValue}
+use Rattle.message.specs.declared.Message.{Message}
 use Rattle.line.specs.Lists.{tooShort, written}
 
 -- 3, or 0: the refusals of the reader are answers

@@ -1,10 +1,10 @@
 // `reader::read` for C.
 use crate::lists;
-use reader::Answer;
-use reader::Message;
-use reader::NumberValue;
-use reader::StatusValue;
-use reader::TypeValue;
+use message::Answer;
+use message::Message;
+use message::NumberValue;
+use message::StatusValue;
+use message::TypeValue;
 ghost use mathlib.Core.Path.{_≡_};
 ghost use mathlib.Core.Bool.{cond};
 ghost use Prim.Native.Nat.{_≤_, _+_};

@@ -7,30 +7,30 @@ use native.Mathlib.Omega.{arith}
 use lib.ListN.{length}
 use lib.Dec.{eqb}
 use borrow.Author.Tests.{ne-eqb}
-use Rattle.scan.specs.Reading.{Reading, _>>=_, isWhole}
-use Rattle.scan.specs.Reading.Reading.{whole, refused}
-use Rattle.scan.specs.Names.{nameAt}
-use Rattle.scan.proofs.Laws.{went, stopped}
-use Rattle.reader.specs.Limits.{linkLimits}
-use Rattle.reader.specs.Words.{advisoryType}
-use Rattle.reader.specs.Elements.{part, Tag, Elements, Element, Quoted, elementAt, documentAt}
-use Rattle.reader.specs.Elements.Elements.{none, more}
-use Rattle.reader.specs.Messages.{noMessage, noStatus, noNumber, noType, message, kindOf, Found, needed, foundIn, called, onlyChild, firstCalled, attributeCalled, attributeOf, typeAdvice, typeValue, messageOfKind, messageAt}
-use Rattle.reader.specs.Seen.{count, markOf, typedIn, insideOf, seenOf, seen, adviceSeen}
-use Rattle.reader.specs.Held.{onlyCalled, nameEnd, kindNamed}
-use Rattle.reader.specs.declared.Kind.{Kind}
-use Rattle.reader.specs.declared.StatusValue.{StatusValue}
-use Rattle.reader.specs.Values.{contentMeaning, adviceOf}
-use Rattle.reader.specs.declared.Advice.{Advice}
-use Rattle.reader.specs.declared.Advice.the-variants as advices
-use Rattle.reader.specs.declared.TypeValue.{TypeValue}
-use Rattle.reader.specs.declared.NumberValue.{NumberValue}
-use Rattle.reader.specs.declared.Message.{Message}
-use Rattle.reader.specs.declared.Inside.{Inside}
-use Rattle.reader.specs.declared.Seen.{Seen}
-use Rattle.reader.proofs.Trees.{whole-same}
-use Rattle.reader.proofs.Facts.{then-whole, Reads, Stands, element-stands, document-root}
-use Rattle.reader.proofs.ContentLoop.{seen-whole, seen-refused}
+use Rattle.message.specs.Reading.{Reading, _>>=_, isWhole}
+use Rattle.message.specs.Reading.Reading.{whole, refused}
+use Rattle.message.specs.Names.{nameAt}
+use Rattle.message.proofs.Laws.{went, stopped}
+use Rattle.message.specs.Limits.{linkLimits}
+use Rattle.message.specs.Words.{advisoryType}
+use Rattle.message.specs.Elements.{part, Tag, Elements, Element, Quoted, elementAt, documentAt}
+use Rattle.message.specs.Elements.Elements.{none, more}
+use Rattle.message.specs.Messages.{noMessage, noStatus, noNumber, noType, message, kindOf, Found, needed, foundIn, called, onlyChild, firstCalled, attributeCalled, attributeOf, typeAdvice, typeValue, messageOfKind, messageAt}
+use Rattle.elements.specs.Seen.{count, markOf, typedIn, insideOf, seenOf, seen}
+use Rattle.reader.specs.Roots.{adviceSeen, onlyCalled, nameEnd, kindNamed}
+use Rattle.message.specs.declared.Kind.{Kind}
+use Rattle.message.specs.declared.StatusValue.{StatusValue}
+use Rattle.message.specs.Values.{contentMeaning, adviceOf}
+use Rattle.message.specs.declared.Advice.{Advice}
+use Rattle.message.specs.declared.Advice.the-variants as advices
+use Rattle.message.specs.declared.TypeValue.{TypeValue}
+use Rattle.message.specs.declared.NumberValue.{NumberValue}
+use Rattle.message.specs.declared.Message.{Message}
+use Rattle.elements.specs.declared.Inside.{Inside}
+use Rattle.elements.specs.declared.Seen.{Seen}
+use Rattle.message.proofs.Trees.{whole-same}
+use Rattle.message.proofs.Facts.{then-whole, Reads, Stands, element-stands, document-root}
+use Rattle.elements.proofs.ContentLoop.{seen-whole, seen-refused}
 
 -- ---- a value that is needed
 

@@ -2,13 +2,12 @@
 // struct is proved by a walk of its steps, so there are two: `new` makes the struct, and `message` hands its slice and its place to
 // `messages::message`, which is covered and does the work. `read`, whose parameter is a plain slice, stands above them: who calls it
 // needs no walk.
-use crate::Answer;
 use crate::messages;
+use message::Answer;
 ghost use mathlib.Core.Path.{_≡_};
-ghost use Rattle.scan.specs.Class.{classOf};
-ghost use Rattle.reader.specs.Limits.{linkLimits};
-ghost use Rattle.reader.specs.Messages.{messageAt};
-ghost use Rattle.reader.specs.Seen.{answerSaid};
+ghost use Rattle.message.specs.Class.{classOf};
+ghost use Rattle.message.specs.Limits.{linkLimits};
+ghost use Rattle.message.specs.Messages.{messageAt, answerSaid};
 
 pub struct Reader<'a> {
     src: &'a [u8],

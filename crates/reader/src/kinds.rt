@@ -1,10 +1,10 @@
 // The kinds of the messages, by the name of the root after any colon.
-use crate::Kind;
-use crate::noted;
+use elements::noted;
+use message::Kind;
 ghost use mathlib.Core.Path.{_≡_};
-ghost use Rattle.reader.specs.Elements.{part};
-ghost use Rattle.reader.specs.Messages.{kindOf};
-ghost use Rattle.reader.specs.Seen.{kindSaid};
+ghost use Rattle.message.specs.Elements.{part};
+ghost use Rattle.message.specs.Messages.{kindOf};
+ghost use Rattle.reader.specs.Roots.{kindSaid};
 
 // `SessionOpenRequest`
 const SESSION_OPEN_REQUEST: [u8; 18] = [

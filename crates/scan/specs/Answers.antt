@@ -1,9 +1,9 @@
 -- What the enums of the code say, case by case: what was read, or document 01's number of a refusal and its place. Assumes nothing.
 use Prim.Native.Nat.{ℕ}
-use Rattle.scan.specs.Reading.{Reading}
-use Rattle.scan.specs.Reading.Reading.{whole, refused}
-use Rattle.scan.specs.Names.{Named}
-use Rattle.scan.specs.Characters as characters
+use Rattle.message.specs.Reading.{Reading}
+use Rattle.message.specs.Reading.Reading.{whole, refused}
+use Rattle.message.specs.Names.{Named}
+use Rattle.message.specs.Characters as characters
 use Rattle.scan.specs.declared.Place.{Place}
 use Rattle.scan.specs.declared.Place.the-variants as places
 use Rattle.scan.specs.declared.Name.{Name}

@@ -1,8 +1,8 @@
 // One byte, and runs of bytes of a class.
 use crate::Place;
 ghost use mathlib.Core.Path.{_≡_};
-ghost use Rattle.scan.specs.Class.{classIn, isStart, atLeast, isName, isSpace};
-ghost use Rattle.scan.specs.Reading.{is, has, one, ends, upTo, blanks as blanksAt, equalsAt, openedAt, isQuote};
+ghost use Rattle.message.specs.Class.{classIn, isStart, atLeast, isName, isSpace};
+ghost use Rattle.message.specs.Reading.{is, has, one, ends, upTo, blanks as blanksAt, equalsAt, openedAt, isQuote};
 ghost use Rattle.scan.specs.Answers.{placeSaid};
 
 // The class that a table gives to a byte.

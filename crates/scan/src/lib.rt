@@ -1,17 +1,12 @@
-// The leaves of the reader: bytes and their classes, names, characters, text, comments and the declaration (document 01, "The restricted XML").
+// The leaves of the reader: bytes and their classes, words and names (document 01, "The restricted XML").
 // Each function is given the message, mostly the table of classes, and a place, and has an answer for every place and every table.
 pub mod bytes;
-pub mod characters;
 mod classes;
-pub mod declaration;
-pub mod markup;
 pub mod names;
-pub mod references;
-pub mod text;
 pub mod words;
 
 ghost use mathlib.Core.Path.{_≡_};
-ghost use Rattle.scan.specs.Class.{classTable};
+ghost use Rattle.message.specs.Class.{classTable};
 
 // The place behind what was read, or the number and the place of a refusal.
 pub enum Place {

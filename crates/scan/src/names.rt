@@ -3,8 +3,8 @@ use crate::Name;
 use crate::Place;
 use crate::bytes;
 ghost use mathlib.Core.Path.{_≡_};
-ghost use Rattle.scan.specs.Class.{classIn};
-ghost use Rattle.scan.specs.Names.{shortAt, partAt, nameAt};
+ghost use Rattle.message.specs.Class.{classIn};
+ghost use Rattle.message.specs.Names.{shortAt, partAt, nameAt};
 ghost use Rattle.scan.specs.Answers.{placeSaid, nameSaid};
 
 // Reads the run of name bytes from a place on, which is of at most `most` bytes.

@@ -2,7 +2,7 @@
 use crate::Place;
 use crate::bytes;
 ghost use mathlib.Core.Path.{_≡_};
-ghost use Rattle.scan.specs.Reading.{isWhole, wordAt};
+ghost use Rattle.message.specs.Reading.{isWhole, wordAt};
 ghost use Rattle.scan.specs.Answers.{placeSaid};
 
 // Reads the bytes of a word, one by one.

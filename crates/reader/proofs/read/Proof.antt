@@ -37,16 +37,16 @@ use denote.Triple.Table.{entered, cited}
 use denote.Triple.Walked.{says, Stays, stay-none-slice, walkOf, goes-none-slice, Walks, ends-at, walked, walk-meets}
 use denote.Exit.{yes}
 use denote.Triple.Clauses.{ensured, lasts}
-use Rattle.scan.specs.Class.{classOf}
-use Rattle.reader.specs.Limits.{linkLimits}
-use Rattle.reader.specs.Messages.{messageAt}
-use Rattle.reader.specs.Seen.{answerSaid}
+use Rattle.message.specs.Class.{classOf}
+use Rattle.message.specs.Limits.{linkLimits}
+use Rattle.message.specs.Messages.{messageAt}
+use Rattle.message.specs.Messages.{answerSaid}
 use Rattle.reader.specs.declared.held.Reader.{Reader}
-use Rattle.reader.specs.declared.Answer.{Answer}
+use Rattle.message.specs.declared.Answer.{Answer}
 use Rattle.reader.proofs.held.Reader as T
 use Rattle.reader.proofs.held.Reader.Laws as T′
-use Rattle.reader.proofs.Answer as S
-use Rattle.reader.proofs.Answer.Laws as S′
+use Rattle.message.proofs.Answer as S
+use Rattle.message.proofs.Answer.Laws as S′
 use Rattle.reader.proofs.held.new as new
 use Rattle.reader.proofs.held.new.Symbol as new-def
 use Rattle.reader.proofs.held.new.Symbol.{name as #reader·held·new}

@@ -2,7 +2,7 @@
 use Rattle.scan.proofs.table.Statement.{statement}
 use Rattle.scan.proofs.table.Tie as tie
 use mathlib.Core.Path.{refl}
-use Rattle.scan.specs.Class.{classOf}
+use Rattle.message.specs.Class.{classOf}
 
 returns : tie.Need-returns
 unfolding classOf

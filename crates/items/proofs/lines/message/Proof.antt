@@ -5,7 +5,7 @@ use Rattle.items.proofs.lines.message.Tie as tie
 use mathlib.Core.Path.{sym, ap, _∙_}
 use lib.ListN.{length}
 use denote.Ref.{now}
-use Rattle.reader.specs.Seen.{answerSaid}
+use Rattle.message.specs.Messages.{answerSaid}
 use Rattle.items.specs.Lines.{answerLine, messageLine}
 
 read-requires : tie.Need-read-requires

@@ -5,7 +5,7 @@ use Rattle.line.proofs.reading.ali_read.Tie as tie
 use mathlib.Core.Path.{sym, ap, _∙_}
 use borrow.Author.Tests.{lt-ltb, le-ltb}
 use denote.Ref.{now}
-use Rattle.reader.specs.Seen.{answerSaid}
+use Rattle.message.specs.Messages.{answerSaid}
 use Rattle.line.specs.Read.{readNumbers}
 use Rattle.line.proofs.ReadCases.{read-short, read-answered}
 

@@ -3,8 +3,8 @@ use borrow.Author.Needs.{needs}
 use Rattle.reader.proofs.kinds.kind.Statement.{statement}
 use Rattle.reader.proofs.kinds.kind.Tie as tie
 use mathlib.Core.Path.{sym, _∙_}
-use Rattle.scan.proofs.Laws.{cond-true, cond-false}
-use Rattle.reader.specs.Messages.{kindOf}
+use Rattle.message.proofs.Laws.{cond-true, cond-false}
+use Rattle.message.specs.Messages.{kindOf}
 
 slice-aggregate-called : tie.Need-slice-aggregate-called
 slice-aggregate-called c = search needs

@@ -4,8 +4,9 @@ use Rattle.reader.proofs.messages.advisory.Statement.{statement}
 use Rattle.reader.proofs.messages.advisory.Tie as tie
 use mathlib.Core.Path.{sym, _∙_, ap}
 use native.Mathlib.Omega.{arith}
-use Rattle.scan.proofs.Laws.{place-is, went, stopped}
-use Rattle.reader.specs.Messages.{numberValue}
+use Rattle.scan.proofs.Said.{place-is}
+use Rattle.message.proofs.Laws.{went, stopped}
+use Rattle.message.specs.Messages.{numberValue}
 use Rattle.reader.proofs.Seven.{child-refused, child-is, value-is, message-same, typed-none, typed-some, typed-again}
 
 slice-aggregate-only-child : tie.Need-slice-aggregate-only-child

@@ -7,13 +7,13 @@ use mathlib.Core.Path.{refl, sym, _∙_, ap}
 use native.Mathlib.Omega.{arith}
 use lib.ListN.{length}
 use borrow.Author.Needs.{needs}
-use Rattle.scan.specs.Class.{classIn}
-use Rattle.scan.proofs.Laws.{name-is}
-use Rattle.scan.proofs.Loops.{Left, left-first}
-use Rattle.reader.specs.Limits.{linkLimits}
-use Rattle.reader.specs.Messages.{attributeCalled}
-use Rattle.reader.specs.Held.{spanSaid}
-use Rattle.reader.proofs.AttributeLaws.{span-is, quoted-on, lookup, called-unnamed, called-no-value, called-found, called-further, called-on}
+use Rattle.message.specs.Class.{classIn}
+use Rattle.scan.proofs.Said.{name-is}
+use Rattle.message.proofs.Loops.{Left, left-first}
+use Rattle.message.specs.Limits.{linkLimits}
+use Rattle.message.specs.Messages.{attributeCalled}
+use Rattle.elements.specs.Held.{spanSaid}
+use Rattle.elements.proofs.AttributeLaws.{span-is, quoted-on, lookup, called-unnamed, called-no-value, called-found, called-further, called-on}
 
 abbrev Inv-loop : tie.InvT-loop
 Inv-loop s table at word i₀ i = Left (lookup (classIn table) s linkLimits word) (attributeCalled (classIn table) linkLimits s (length s) word at) i

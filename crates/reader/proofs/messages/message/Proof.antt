@@ -3,8 +3,8 @@ use borrow.Author.Needs.{needs}
 use Rattle.reader.proofs.messages.message.Statement.{statement}
 use Rattle.reader.proofs.messages.message.Tie as tie
 use mathlib.Core.Path.{_∙_, ap}
-use Rattle.scan.specs.Class.{classIn}
-use Rattle.scan.proofs.ClassTable.{table-is}
+use Rattle.message.specs.Class.{classIn}
+use Rattle.message.proofs.ClassTable.{table-is}
 use Rattle.reader.proofs.Seven.{classes-same}
 
 table-requires : tie.Need-table-requires

@@ -3,7 +3,8 @@ use borrow.Author.Needs.{needs}
 use Rattle.reader.proofs.messages.message_with.Statement.{statement}
 use Rattle.reader.proofs.messages.message_with.Tie as tie
 use mathlib.Core.Path.{sym, _∙_, ap}
-use Rattle.reader.specs.Seen.{toldSaid, kindSaid}
+use Rattle.elements.specs.Seen.{toldSaid}
+use Rattle.reader.specs.Roots.{kindSaid}
 use Rattle.reader.proofs.Seven.{read-root, message-refused, message-unknown, message-known}
 
 document-requires : tie.Need-document-requires

@@ -2,8 +2,8 @@
 use borrow.Author.Needs.{needs}
 use Rattle.reader.proofs.messages.name_end.Statement.{statement}
 use Rattle.reader.proofs.messages.name_end.Tie as tie
-use Rattle.scan.proofs.Laws.{name-is}
-use Rattle.reader.proofs.Called.{name-end, none-end}
+use Rattle.scan.proofs.Said.{name-is}
+use Rattle.reader.proofs.Roots.{name-end, none-end}
 
 name-requires : tie.Need-name-requires
 name-requires c κs = search needs

@@ -3,8 +3,9 @@ use borrow.Author.Needs.{needs}
 use Rattle.reader.proofs.messages.named.Statement.{statement}
 use Rattle.reader.proofs.messages.named.Tie as tie
 use mathlib.Core.Path.{sym, _∙_}
-use Rattle.scan.proofs.Laws.{name-is, cond-true, cond-false}
-use Rattle.reader.proofs.Called.{name-called, none-called}
+use Rattle.scan.proofs.Said.{name-is}
+use Rattle.message.proofs.Laws.{cond-true, cond-false}
+use Rattle.reader.proofs.Roots.{name-called, none-called}
 
 name-requires : tie.Need-name-requires
 name-requires c κs = search needs

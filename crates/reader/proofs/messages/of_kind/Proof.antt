@@ -3,10 +3,10 @@ use borrow.Author.Needs.{needs}
 use Rattle.reader.proofs.messages.of_kind.Statement.{statement}
 use Rattle.reader.proofs.messages.of_kind.Tie as tie
 use mathlib.Core.Path.{sym, _∙_, ap}
-use Rattle.scan.specs.Reading.Reading.{whole}
-use Rattle.reader.specs.Limits.{linkLimits}
-use Rattle.reader.specs.Messages.{noStatus, noNumber, noType, message, messageOfKind}
-use Rattle.reader.specs.declared.Kind.{Kind}
+use Rattle.message.specs.Reading.Reading.{whole}
+use Rattle.message.specs.Limits.{linkLimits}
+use Rattle.message.specs.Messages.{noStatus, noNumber, noType, message, messageOfKind}
+use Rattle.message.specs.declared.Kind.{Kind}
 use Rattle.reader.proofs.Seven.{numbers-same}
 
 enum-told : tie.Need-enum-told

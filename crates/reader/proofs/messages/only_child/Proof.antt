@@ -4,7 +4,7 @@ use Rattle.reader.proofs.messages.only_child.Statement.{statement}
 use Rattle.reader.proofs.messages.only_child.Tie as tie
 use mathlib.Core.Path.{_∙_}
 use borrow.Author.Tests.{eq-eqb, ne-eqb}
-use Rattle.scan.proofs.Laws.{cond-true, cond-false}
+use Rattle.message.proofs.Laws.{cond-true, cond-false}
 
 named-requires : tie.Need-named-requires
 named-requires c κs = search needs

@@ -4,7 +4,8 @@ use Rattle.reader.proofs.messages.request.Statement.{statement}
 use Rattle.reader.proofs.messages.request.Tie as tie
 use mathlib.Core.Path.{sym, _∙_}
 use borrow.Author.Tests.{not-true, not-false}
-use Rattle.scan.proofs.Laws.{place-is, went}
+use Rattle.scan.proofs.Said.{place-is}
+use Rattle.message.proofs.Laws.{went}
 use Rattle.reader.proofs.Seven.{child-refused, child-is, value-missing, value-there, numbers-same}
 
 slice-aggregate-only-child : tie.Need-slice-aggregate-only-child

@@ -3,8 +3,9 @@ use borrow.Author.Needs.{needs}
 use Rattle.reader.proofs.messages.response.Statement.{statement}
 use Rattle.reader.proofs.messages.response.Tie as tie
 use mathlib.Core.Path.{_∙_, ap}
-use Rattle.scan.proofs.Laws.{place-is, went}
-use Rattle.reader.specs.Messages.{numberValue}
+use Rattle.scan.proofs.Said.{place-is}
+use Rattle.message.proofs.Laws.{went}
+use Rattle.message.specs.Messages.{numberValue}
 use Rattle.reader.proofs.Seven.{child-refused, child-is, value-is, numbers-same}
 
 slice-aggregate-only-child : tie.Need-slice-aggregate-only-child

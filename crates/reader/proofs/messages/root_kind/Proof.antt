@@ -3,8 +3,8 @@ use borrow.Author.Needs.{needs}
 use Rattle.reader.proofs.messages.root_kind.Statement.{statement}
 use Rattle.reader.proofs.messages.root_kind.Tie as tie
 use mathlib.Core.Path.{_∙_}
-use Rattle.scan.proofs.Laws.{name-is}
-use Rattle.reader.proofs.Called.{name-kind, none-kind}
+use Rattle.scan.proofs.Said.{name-is}
+use Rattle.reader.proofs.Roots.{name-kind, none-kind}
 
 name-requires : tie.Need-name-requires
 name-requires c κs = search needs

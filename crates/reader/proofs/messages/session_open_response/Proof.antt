@@ -4,7 +4,6 @@ use Rattle.reader.proofs.messages.session_open_response.Statement.{stat
 use Rattle.reader.proofs.messages.session_open_response.Tie as tie
 use mathlib.Core.Path.{sym, _∙_}
 use borrow.Author.Tests.{not-true, not-false}
-use Prim.Native.Nat.{_-_}
 use Rattle.reader.proofs.Seven.{root-end, value-missing, value-there, message-same}
 
 name-end-requires : tie.Need-name-end-requires

@@ -4,7 +4,7 @@ use Rattle.reader.proofs.messages.type_advice.Statement.{statement}
 use Rattle.reader.proofs.messages.type_advice.Tie as tie
 use mathlib.Core.Path.{_∙_}
 use borrow.Author.Tests.{eq-eqb, ne-eqb}
-use Rattle.scan.proofs.Laws.{cond-true, cond-false}
+use Rattle.message.proofs.Laws.{cond-true, cond-false}
 
 advice-requires : tie.Need-advice-requires
 advice-requires c κs = search needs

@@ -3,7 +3,7 @@ use borrow.Author.Needs.{needs}
 use Rattle.reader.proofs.messages.type_value.Statement.{statement}
 use Rattle.reader.proofs.messages.type_value.Tie as tie
 use mathlib.Core.Path.{sym, _∙_, ap}
-use Rattle.reader.specs.Seen.{toldSaid}
+use Rattle.elements.specs.Seen.{toldSaid}
 use Rattle.reader.proofs.Seven.{type-unread, type-read}
 
 sub-element : tie.Need-sub-element

@@ -4,7 +4,7 @@ use Rattle.scan.proofs.bytes.byte.Statement.{statement}
 use Rattle.scan.proofs.bytes.byte.Tie as tie
 use mathlib.Core.Path.{sym, _∙_}
 use native.Mathlib.Omega.{arith}
-use Rattle.scan.proofs.Laws.{has-lt, one-yes, one-no}
+use Rattle.message.proofs.Laws.{has-lt, one-yes, one-no}
 
 is-at-requires : tie.Need-is-at-requires
 is-at-requires c κs = search needs

@@ -3,9 +3,10 @@ use borrow.Author.Needs.{needs}
 use Rattle.scan.proofs.bytes.equals.Statement.{statement}
 use Rattle.scan.proofs.bytes.equals.Tie as tie
 use mathlib.Core.Path.{ap, _∙_}
-use Rattle.scan.specs.Reading.Reading.{whole}
-use Rattle.scan.specs.Reading.{one, is, equalsAt}
-use Rattle.scan.proofs.Laws.{place-is, handed, went}
+use Rattle.message.specs.Reading.Reading.{whole}
+use Rattle.message.specs.Reading.{one, is, equalsAt}
+use Rattle.scan.proofs.Said.{place-is, handed}
+use Rattle.message.proofs.Laws.{went}
 
 blanks-requires : tie.Need-blanks-requires
 blanks-requires c κs = search needs

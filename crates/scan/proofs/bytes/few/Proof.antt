@@ -10,9 +10,9 @@ use native.Mathlib.Omega.{arith}
 use lib.ListN.{length}
 use lib.Dec.{leb}
 use borrow.Author.Tests.{le-leb, lt-leb}
-use Rattle.scan.specs.Class.{atLeast}
-use Rattle.scan.specs.Reading.{byteAt, has, upTo}
-use Rattle.scan.proofs.Laws.{has-in, up-yes, up-on, up-no, up-short}
+use Rattle.message.specs.Class.{atLeast}
+use Rattle.message.specs.Reading.{byteAt, has, upTo}
+use Rattle.message.proofs.Laws.{has-in, up-yes, up-on, up-no, up-short}
 
 module _ (class : ℕ → ℕ) (least : ℕ) (s : List ℕ) (at : ℕ) {r : ℕ} (r-is : r ≡ class (byteAt s at)) (inside : at < length s) where
   passes : least ≤ r → has (atLeast class least) s at ≡ true

@@ -3,7 +3,7 @@ use borrow.Author.Needs.{needs}
 use Rattle.scan.proofs.bytes.is_at.Statement.{statement}
 use Rattle.scan.proofs.bytes.is_at.Tie as tie
 use mathlib.Core.Path.{sym}
-use Rattle.scan.proofs.Laws.{has-in, has-out}
+use Rattle.message.proofs.Laws.{has-in, has-out}
 
 shared-slice-read-result : tie.Need-shared-slice-read-result
 shared-slice-read-result c = search needs

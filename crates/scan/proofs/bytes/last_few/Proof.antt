@@ -5,8 +5,8 @@ use Rattle.scan.proofs.bytes.last_few.Tie as tie
 use mathlib.Core.Path.{refl, sym, _∙_}
 use native.Mathlib.Omega.{arith}
 use borrow.Author.Tests.{not-true, not-false}
-use Rattle.scan.specs.Reading.{upTo}
-use Rattle.scan.proofs.Laws.{has-lt, up-yes, up-on, up-no}
+use Rattle.message.specs.Reading.{upTo}
+use Rattle.message.proofs.Laws.{has-lt, up-yes, up-on, up-no}
 
 least-at-requires : tie.Need-least-at-requires
 least-at-requires c κs = search needs

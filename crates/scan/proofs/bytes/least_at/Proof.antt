@@ -4,7 +4,7 @@ use Rattle.scan.proofs.bytes.least_at.Statement.{statement}
 use Rattle.scan.proofs.bytes.least_at.Tie as tie
 use mathlib.Core.Path.{sym, ap, _∙_}
 use lib.Dec.{leb}
-use Rattle.scan.proofs.Laws.{has-in, has-out}
+use Rattle.message.proofs.Laws.{has-in, has-out}
 
 shared-slice-read-class : tie.Need-shared-slice-read-class
 shared-slice-read-class c = search needs

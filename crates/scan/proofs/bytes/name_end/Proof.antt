@@ -5,9 +5,9 @@ use mathlib.Core.Path.{_≡_, refl, sym, _∙_}
 use Prim.Native.Nat.{_-_}
 use native.Mathlib.Omega.{arith}
 use lib.ListN.{length}
-use Rattle.scan.specs.Class.{classIn, isName}
-use Rattle.scan.specs.Reading.{ends}
-use Rattle.scan.proofs.Laws.{has-lt, ends-more, ends-stop}
+use Rattle.message.specs.Class.{classIn, isName}
+use Rattle.message.specs.Reading.{ends}
+use Rattle.message.proofs.Laws.{has-lt, ends-more, ends-stop}
 
 abbrev Inv-loop : tie.InvT-loop
 Inv-loop s table at i₀ i = ends (isName (classIn table)) s i ≡ ends (isName (classIn table)) s at

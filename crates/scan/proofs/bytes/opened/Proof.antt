@@ -3,8 +3,9 @@ use borrow.Author.Needs.{needs}
 use Rattle.scan.proofs.bytes.opened.Statement.{statement}
 use Rattle.scan.proofs.bytes.opened.Tie as tie
 use mathlib.Core.Path.{_∙_}
-use Rattle.scan.specs.Reading.{openedAt}
-use Rattle.scan.proofs.Laws.{place-is, handed, went}
+use Rattle.message.specs.Reading.{openedAt}
+use Rattle.scan.proofs.Said.{place-is, handed}
+use Rattle.message.proofs.Laws.{went}
 
 equals-requires : tie.Need-equals-requires
 equals-requires c κs = search needs

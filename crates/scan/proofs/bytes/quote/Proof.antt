@@ -4,8 +4,8 @@ use Rattle.scan.proofs.bytes.quote.Statement.{statement}
 use Rattle.scan.proofs.bytes.quote.Tie as tie
 use mathlib.Core.Path.{sym, _∙_}
 use native.Mathlib.Omega.{arith}
-use Rattle.scan.specs.Reading.{is}
-use Rattle.scan.proofs.Laws.{has-lt, has-first, has-second, one-yes, one-same}
+use Rattle.message.specs.Reading.{is}
+use Rattle.message.proofs.Laws.{has-lt, has-first, has-second, one-yes, one-same}
 
 is-at-requires : tie.Need-is-at-requires
 is-at-requires c κs = search needs

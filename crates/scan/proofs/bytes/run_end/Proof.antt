@@ -5,9 +5,9 @@ use Prim.Native.Nat.{_-_, _^_, _<_}
 use mathlib.Core.Path.{_≡_, refl, _∙_}
 use native.Mathlib.Omega.{arith}
 use lib.ListN.{length}
-use Rattle.scan.specs.Class.{classIn, atLeast}
-use Rattle.scan.specs.Reading.{ends}
-use Rattle.scan.proofs.Laws.{up-in, up-all, up-some}
+use Rattle.message.specs.Class.{classIn, atLeast}
+use Rattle.message.specs.Reading.{ends}
+use Rattle.message.proofs.Laws.{up-in, up-all, up-some}
 
 abbrev Inv-loop : tie.InvT-loop
 Inv-loop s table at least i₀ i = (i < 2 ^ 64) × (ends (atLeast (classIn table) least) s i ≡ ends (atLeast (classIn table) least) s at)

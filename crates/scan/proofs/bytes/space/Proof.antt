@@ -4,7 +4,7 @@ use Rattle.scan.proofs.bytes.space.Statement.{statement}
 use Rattle.scan.proofs.bytes.space.Tie as tie
 use mathlib.Core.Path.{sym, _∙_}
 use native.Mathlib.Omega.{arith}
-use Rattle.scan.proofs.Laws.{has-lt, one-yes, one-no}
+use Rattle.message.proofs.Laws.{has-lt, one-yes, one-no}
 
 space-at-requires : tie.Need-space-at-requires
 space-at-requires c κs = search needs

@@ -4,7 +4,7 @@ use Rattle.scan.proofs.bytes.start.Statement.{statement}
 use Rattle.scan.proofs.bytes.start.Tie as tie
 use mathlib.Core.Path.{sym, _∙_}
 use native.Mathlib.Omega.{arith}
-use Rattle.scan.proofs.Laws.{has-lt, one-yes, one-no}
+use Rattle.message.proofs.Laws.{has-lt, one-yes, one-no}
 
 start-at-requires : tie.Need-start-at-requires
 start-at-requires c κs = search needs

@@ -5,7 +5,7 @@ use Rattle.scan.proofs.bytes.start_at.Tie as tie
 use mathlib.Core.Path.{sym, ap, _∙_}
 use Prim.Native.Nat.{ℕ}
 use lib.Dec.{eqb}
-use Rattle.scan.proofs.Laws.{has-in, has-out}
+use Rattle.message.proofs.Laws.{has-in, has-out}
 
 shared-slice-read-class : tie.Need-shared-slice-read-class
 shared-slice-read-class c = search needs

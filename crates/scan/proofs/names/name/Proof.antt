@@ -6,8 +6,9 @@ use Rattle.scan.proofs.names.name.Tie as tie
 use mathlib.Core.Path.{sym, _∙_}
 use native.Mathlib.Omega.{arith}
 use borrow.Author.Tests.{not-true, not-false}
-use Rattle.scan.specs.Names.{nameAt}
-use Rattle.scan.proofs.Laws.{place-is, went, stopped, has-lt, cond-true, cond-false}
+use Rattle.message.specs.Names.{nameAt}
+use Rattle.scan.proofs.Said.{place-is}
+use Rattle.message.proofs.Laws.{went, stopped, has-lt, cond-true, cond-false}
 
 part-requires : tie.Need-part-requires
 part-requires c κs = search needs

@@ -3,8 +3,9 @@ use borrow.Author.Needs.{needs}
 use Rattle.scan.proofs.names.part.Statement.{statement}
 use Rattle.scan.proofs.names.part.Tie as tie
 use mathlib.Core.Path.{_∙_}
-use Rattle.scan.specs.Names.{partAt}
-use Rattle.scan.proofs.Laws.{place-is, handed, went}
+use Rattle.message.specs.Names.{partAt}
+use Rattle.scan.proofs.Said.{place-is, handed}
+use Rattle.message.proofs.Laws.{went}
 
 start-requires : tie.Need-start-requires
 start-requires c κs = search needs

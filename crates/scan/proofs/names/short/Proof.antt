@@ -6,11 +6,11 @@ use Prim.Native.Nat.{ℕ, _-_, _<_, _≤_}
 use mathlib.Core.Path.{_≡_, ap, _∙_}
 use mathlib.Core.List.{List}
 use borrow.Author.Tests.{lt-ltb, le-ltb}
-use Rattle.scan.specs.Class.{isName}
-use Rattle.scan.specs.Reading.{ends}
-use Rattle.scan.specs.Reading.Reading.{whole, refused}
-use Rattle.scan.specs.Names.{shortAt}
-use Rattle.scan.proofs.Laws.{ends-from, cond-true, cond-false}
+use Rattle.message.specs.Class.{isName}
+use Rattle.message.specs.Reading.{ends}
+use Rattle.message.specs.Reading.Reading.{whole, refused}
+use Rattle.message.specs.Names.{shortAt}
+use Rattle.message.proofs.Laws.{ends-from, cond-true, cond-false}
 
 -- the run from the place on ends at e
 module _ (class : ℕ → ℕ) (most : ℕ) (s : List ℕ) (at : ℕ) {e : ℕ} (ends-there : e ≡ ends (isName class) s at) where

@@ -3,8 +3,8 @@ use borrow.Author.Needs.{needs}
 use Rattle.scan.proofs.words.spells.Statement.{statement}
 use Rattle.scan.proofs.words.spells.Tie as tie
 use mathlib.Core.Path.{sym, ap}
-use Rattle.scan.specs.Reading.{isWhole}
-use Rattle.scan.proofs.Laws.{place-is}
+use Rattle.message.specs.Reading.{isWhole}
+use Rattle.scan.proofs.Said.{place-is}
 
 word-requires : tie.Need-word-requires
 word-requires c κs = search needs

@@ -7,8 +7,9 @@ use mathlib.Core.Path.{_≡_, refl, sym, _∙_}
 use Prim.Native.Nat.{_-_}
 use native.Mathlib.Omega.{arith}
 use lib.ListN.{length, drop}
-use Rattle.scan.specs.Reading.{wordAt}
-use Rattle.scan.proofs.Laws.{place-is, handed, went, word-none, word-more}
+use Rattle.message.specs.Reading.{wordAt}
+use Rattle.scan.proofs.Said.{place-is, handed}
+use Rattle.message.proofs.Laws.{went, word-none, word-more}
 
 abbrev Inv-loop : tie.InvT-loop
 Inv-loop s at w k₀ i₀ k i = wordAt (drop k w) s i ≡ wordAt w s at

@@ -1,0 +1,11 @@
+-- `Laws` and `Digits` are about single readings, `Parts` about parts of the message; `ClassTable` computes the table. `Progress`, `MarkupLoop` and `Trees` show that what is
+-- read whole ends past where it began, `Loops` what a loop over a reader keeps, and `Facts` that each element is what is read again at its place.
+pub mod Laws
+pub mod Digits
+pub mod Parts
+pub mod ClassTable
+pub mod Progress
+pub mod Loops
+pub mod MarkupLoop
+pub mod Trees
+pub mod Facts

@@ -1,0 +1,77 @@
+-- Laws of runs of bytes that are compared one by one, and of a part of the message as such a run. Assumes nothing.
+use Prim.Native.Nat.{ℕ, suc, _+_, _-_, _<_, _≤_, min}
+use mathlib.Core.Path.{_≡_, refl, sym, _∙_, ap}
+use mathlib.Core.Logic.{_⊎_, ⊎-elim}
+use mathlib.Core.Bool.{Bool, true, false, _&&_}
+use mathlib.Core.List.{List, [], _∷_}
+use native.Mathlib.Nat.{min-eq-left, min-eq-right, min-le-left}
+use native.Mathlib.Numerals.{add-one}
+use native.Mathlib.Omega.{arith}
+use lib.ListN.{length, getD, take, drop, drop-of-length-le, length-take, length-drop}
+use lib.Seq.{drop-cons, slice-cons, getD-drop, getD-take}
+use lib.Dec.{eqb}
+use borrow.Author.Tests.{eq-eqb, ne-eqb}
+use Rattle.laws.specs.Bytes.{sameBytes}
+use Rattle.message.specs.Elements.{part}
+
+-- ---- two runs of bytes
+
+fails-too : (t : Bool) {u : Bool} → false ≡ u → false ≡ (t && u)
+fails-too true h = h
+fails-too false h = refl
+
+pub other-length : (u v : List ℕ) → (length u ≡ length v → ⊥) → false ≡ sameBytes u v
+unfolding sameBytes
+other-length [] [] h = absurd (h refl)
+other-length [] (y ∷ v) h = refl
+other-length (x ∷ u) [] h = refl
+other-length (x ∷ u) (y ∷ v) h = fails-too (eqb x y) (other-length u v (λ e. h (ap suc e)))
+
+-- from their k-th bytes on
+module _ (u v : List ℕ) (k : ℕ) where
+  pub same-on : k < length u → k < length v → getD u k 0 ≡ getD v k 0 → sameBytes (drop (k + 1) u) (drop (k + 1) v) ≡ sameBytes (drop k u) (drop k v)
+  unfolding sameBytes
+  same-on h h′ q = rw (add-one, drop-cons u k 0 h, drop-cons v k 0 h′, eq-eqb (getD u k 0) (getD v k 0) q)
+
+  pub same-differs : k < length u → k < length v → (getD u k 0 ≡ getD v k 0 → ⊥) → false ≡ sameBytes (drop k u) (drop k v)
+  unfolding sameBytes
+  same-differs h h′ q = rw (drop-cons u k 0 h, drop-cons v k 0 h′, ne-eqb (getD u k 0) (getD v k 0) q)
+
+  pub same-end : length u ≤ k → length v ≤ k → true ≡ sameBytes (drop k u) (drop k v)
+  unfolding sameBytes
+  same-end h h′ = rw (drop-of-length-le u {i = k} h, drop-of-length-le v {i = k} h′)
+
+-- ---- a part of the message
+
+module _ (s : List ℕ) (b e : ℕ) where
+  pub part-length : length (part s b e) ≡ min e (length s) - b
+  part-length = length-drop b (take e s) ∙ ap (λ (n : ℕ). n - b) (length-take e s)
+
+  pub part-byte : (k : ℕ) → k < min e (length s) - b → getD (part s b e) k 0 ≡ getD s (b + k) 0
+  part-byte k h = getD-drop b (take e s) k 0 ∙ getD-take e s (b + k) 0 (omega (arith, min-le-left e (length s)))
+
+  pub part-none : e ≤ b → part s b e ≡ []
+  part-none h = drop-of-length-le (take e s) {i = b} (omega (arith, length-take e s, min-le-left e (length s)))
+
+  pub part-some : b < e → e ≤ length s → part s b e ≡ getD s b 0 ∷ part s (b + 1) e
+  part-some h l = rw add-one (slice-cons b e s 0 h l)
+
+  -- compared with a word, where n bytes stand in the part
+  module _ (w : List ℕ) {n : ℕ} (n-is : n ≡ min e (length s) - b) where
+    pub part-other : (n ≡ length w → ⊥) → false ≡ sameBytes (part s b e) w
+    part-other h = other-length (part s b e) w (λ q. h (n-is ∙ sym part-length ∙ q))
+
+    module _ (k : ℕ) (lengths : n ≡ length w) where
+      pub part-on : k < n → getD s (b + k) 0 ≡ getD w k 0 → sameBytes (drop (k + 1) (part s b e)) (drop (k + 1) w) ≡ sameBytes (drop k (part s b e)) (drop k w)
+      part-on h q = same-on (part s b e) w k (omega (arith, part-length)) (omega arith) (part-byte k (omega arith) ∙ q)
+
+      pub part-differs : k < n → (getD s (b + k) 0 ≡ getD w k 0 → ⊥) → false ≡ sameBytes (drop k (part s b e)) (drop k w)
+      part-differs h q = same-differs (part s b e) w k (omega (arith, part-length)) (omega arith) (λ p. q (sym (part-byte k (omega arith)) ∙ p))
+
+      pub part-end : n ≤ k → true ≡ sameBytes (drop k (part s b e)) (drop k w)
+      part-end h = same-end (part s b e) w k (omega (arith, part-length)) (omega arith)
+
+-- what a local is after `if e < n { e } else { n }`, from the way that control came
+pub lesser : {T F : Type 0} {n e stop : ℕ} → (T × (stop ≡ e)) ⊎ (F × (stop ≡ n)) → (T → e < n) → (F → n ≤ e) → stop ≡ min e n
+lesser {n = n} {e = e} came taken left =
+    ⊎-elim (λ w. let h : e ≤ n = omega (arith, taken (w .0)) in w .1 ∙ sym (min-eq-left h)) (λ w. w .1 ∙ sym (min-eq-right (left (w .0)))) came

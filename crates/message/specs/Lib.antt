@@ -1,0 +1,15 @@
+-- `Class` gives each byte its class, `Reading` says what a reading is, and `Names`, `Characters`, `Text` and `Markup` read those. `Elements` says what is read of a
+-- message as XML, `Values` what values mean, `Messages` which of the seven it is and what it carries; `Words` has their names and texts and `Limits` the limits.
+-- `Examples` computes a few messages.
+pub mod Class
+pub mod Reading
+pub mod Names
+pub mod Characters
+pub mod Text
+pub mod Markup
+pub mod Words
+pub mod Limits
+pub mod Elements
+pub mod Values
+pub mod Messages
+mod Examples

@@ -1,0 +1,71 @@
+// Comments where markup may begin, the openings of refusal 12, and what may stand around the root.
+use crate::runs;
+use scan::Place;
+use scan::bytes;
+use scan::words;
+ghost use mathlib.Core.Path.{_≡_};
+ghost use Prim.Native.Nat.{suc};
+ghost use lib.ListN.{length};
+ghost use Rattle.message.specs.Class.{classIn};
+ghost use Rattle.message.specs.Markup.{bangAt, aroundAt, opensAt};
+ghost use Rattle.scan.specs.Answers.{placeSaid};
+
+const DOCTYPE: [u8; 7] = [68, 79, 67, 84, 89, 80, 69];
+
+const CDATA: [u8; 7] = [91, 67, 68, 65, 84, 65, 91];
+
+const HYPHENS: [u8; 2] = [45, 45];
+
+// `<` and the byte b stand at the place.
+pub fn opens_at(s: &[u8], at: usize, b: u8) -> bool
+    ensures { λ r. ⌜ r ≡ opensAt b (now (s .entry)) at ⌝ }
+{
+    if bytes::is_at(s, at, 60) {
+        bytes::is_at(s, at + 1, b)
+    } else {
+        false
+    }
+}
+
+// Reads a comment from its `<!` on; whole openings of what is left out are 12.
+pub fn bang(s: &[u8], table: &[u8; 256], at: usize) -> Place
+    ensures { λ r. ⌜ placeSaid r ≡ bangAt (classIn (now (table .entry))) (now (s .entry)) at ⌝ }
+{
+    let r = bytes::byte(s, at, 60);
+    let Place::Whole(i) = r else {
+        return r;
+    };
+    let r = bytes::byte(s, i, 33);
+    let Place::Whole(from) = r else {
+        return r;
+    };
+    if words::spells(s, from, &DOCTYPE) {
+        return Place::Refused(12, at);
+    }
+    if words::spells(s, from, &CDATA) {
+        return Place::Refused(12, at);
+    }
+    let r = words::word(s, from, &HYPHENS);
+    let Place::Whole(inside) = r else {
+        return r;
+    };
+    runs::comment(s, table, inside)
+}
+
+// Reads white space and comments, up to what is neither.
+pub fn around(s: &[u8], table: &[u8; 256], at: usize) -> Place
+    ensures { λ r. ⌜ placeSaid r ≡ aroundAt (classIn (now (table .entry))) (suc (length (now (s .entry)))) (now (s .entry)) at ⌝ }
+{
+    let mut i = bytes::blanks(s, table, at);
+    while opens_at(s, i, 33) {
+        let r = bang(s, table, i);
+        let Place::Whole(next) = r else {
+            return r;
+        };
+        i = bytes::blanks(s, table, next);
+    }
+    if opens_at(s, i, 63) {
+        return Place::Refused(12, i);
+    }
+    Place::Whole(i)
+}

@@ -1,0 +1,2 @@
+-- `Letters` is for the meanings, letter by letter.
+mod Letters

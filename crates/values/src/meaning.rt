@@ -1,0 +1,347 @@
+// What values mean: references replaced, and line ends made one.
+use message::Advice;
+use message::Number;
+use message::Status;
+use scan::Character;
+use scan::Place;
+use scan::bytes;
+use text::markup;
+use text::runs;
+ghost use mathlib.Core.Path.{_≡_};
+ghost use Prim.Native.Nat.{suc, _<_};
+ghost use lib.ListN.{length};
+ghost use Rattle.message.specs.Class.{classIn};
+ghost use Rattle.message.specs.Reading.{has};
+ghost use Rattle.scan.specs.Answers.{characterSaid};
+ghost use Rattle.message.specs.Values.{lineEnd, isBreak, letterAt, attributeLetterAt, textLetterAt, attributeMeaning, contentMeaning, means, numberFrom, numberOf, statusOf, adviceOf};
+
+// `urn:nena-org:dtc:aqstcp:status:Ok`
+const OK_STATUS: [u8; 33] = [
+    117,
+    114,
+    110,
+    58,
+    110,
+    101,
+    110,
+    97,
+    45,
+    111,
+    114,
+    103,
+    58,
+    100,
+    116,
+    99,
+    58,
+    97,
+    113,
+    115,
+    116,
+    99,
+    112,
+    58,
+    115,
+    116,
+    97,
+    116,
+    117,
+    115,
+    58,
+    79,
+    107,
+];
+
+// `urn:nena-org:dtc:aqstcp:status:RedundantSession`
+const REDUNDANT_STATUS: [u8; 47] = [
+    117,
+    114,
+    110,
+    58,
+    110,
+    101,
+    110,
+    97,
+    45,
+    111,
+    114,
+    103,
+    58,
+    100,
+    116,
+    99,
+    58,
+    97,
+    113,
+    115,
+    116,
+    99,
+    112,
+    58,
+    115,
+    116,
+    97,
+    116,
+    117,
+    115,
+    58,
+    82,
+    101,
+    100,
+    117,
+    110,
+    100,
+    97,
+    110,
+    116,
+    83,
+    101,
+    115,
+    115,
+    105,
+    111,
+    110,
+];
+
+// `urn:nena-org:dtc:aqs:notif:advisory:appl-x:UnreadableMessage`
+const UNREADABLE_MESSAGE: [u8; 60] = [
+    117,
+    114,
+    110,
+    58,
+    110,
+    101,
+    110,
+    97,
+    45,
+    111,
+    114,
+    103,
+    58,
+    100,
+    116,
+    99,
+    58,
+    97,
+    113,
+    115,
+    58,
+    110,
+    111,
+    116,
+    105,
+    102,
+    58,
+    97,
+    100,
+    118,
+    105,
+    115,
+    111,
+    114,
+    121,
+    58,
+    97,
+    112,
+    112,
+    108,
+    45,
+    120,
+    58,
+    85,
+    110,
+    114,
+    101,
+    97,
+    100,
+    97,
+    98,
+    108,
+    101,
+    77,
+    101,
+    115,
+    115,
+    97,
+    103,
+    101,
+];
+
+// The place behind the line end that begins at the place.
+fn line_end(s: &[u8], at: usize) -> usize
+    requires { ⌜ at < length (now s) ⌝ }
+    ensures { λ r. ⌜ r ≡ lineEnd (now (s .entry)) at ⌝ }
+{
+    if bytes::is_at(s, at, 13) {
+        if bytes::is_at(s, at + 1, 10) {
+            return at + 2;
+        }
+    }
+    at + 1
+}
+
+// Literal tab, line feed or carriage return stands at the place.
+fn break_at(s: &[u8], at: usize) -> bool
+    ensures { λ r. ⌜ r ≡ has isBreak (now (s .entry)) at ⌝ }
+{
+    if bytes::is_at(s, at, 9) {
+        return true;
+    }
+    if bytes::is_at(s, at, 10) {
+        return true;
+    }
+    bytes::is_at(s, at, 13)
+}
+
+// A character as it stands or as a reference names it.
+fn letter(s: &[u8], table: &[u8; 256], at: usize) -> Character
+    ensures { λ r. ⌜ characterSaid r ≡ letterAt (classIn (now (table .entry))) (now (s .entry)) at ⌝ }
+{
+    if at < s.len() {
+        let b = s[at];
+        if 1 <= bytes::class(table, b) {
+            return Character::Whole(at + 1, b as u32);
+        }
+    }
+    runs::special(s, at)
+}
+
+// A character of an attribute's value.
+fn attribute_letter(s: &[u8], table: &[u8; 256], at: usize) -> Character
+    ensures { λ r. ⌜ characterSaid r ≡ attributeLetterAt (classIn (now (table .entry))) (now (s .entry)) at ⌝ }
+{
+    if break_at(s, at) {
+        return Character::Whole(line_end(s, at), 32);
+    }
+    letter(s, table, at)
+}
+
+// A character of an element's content.
+fn text_letter(s: &[u8], table: &[u8; 256], at: usize) -> Character
+    ensures { λ r. ⌜ characterSaid r ≡ textLetterAt (classIn (now (table .entry))) (now (s .entry)) at ⌝ }
+{
+    if bytes::is_at(s, at, 13) {
+        return Character::Whole(line_end(s, at), 10);
+    }
+    letter(s, table, at)
+}
+
+// The attribute's value from `from` up to `to` means the word.
+fn attribute_means(s: &[u8], table: &[u8; 256], from: usize, to: usize, word: &[u8]) -> bool
+    ensures { λ r. ⌜ r ≡ means (now (word .entry)) (attributeMeaning (classIn (now (table .entry))) (now (s .entry)) (suc (length (now (s .entry)))) to from) ⌝ }
+{
+    let mut k = 0;
+    let mut i = from;
+    while i < to {
+        let c = attribute_letter(s, table, i);
+        let Character::Whole(next, code) = c else {
+            return false;
+        };
+        if k >= word.len() {
+            return false;
+        }
+        if code != word[k] as u32 {
+            return false;
+        }
+        k += 1;
+        i = next;
+    }
+    k == word.len()
+}
+
+// The element's content from `from` up to `to` means the word; comments in it mean nothing.
+fn content_means(s: &[u8], table: &[u8; 256], from: usize, to: usize, word: &[u8]) -> bool
+    ensures { λ r. ⌜ r ≡ means (now (word .entry)) (contentMeaning (classIn (now (table .entry))) (now (s .entry)) (suc (length (now (s .entry)))) to from) ⌝ }
+{
+    let mut k = 0;
+    let mut i = from;
+    while i < to {
+        if bytes::is_at(s, i, 60) {
+            let r = markup::bang(s, table, i);
+            let Place::Whole(next) = r else {
+                return false;
+            };
+            i = next;
+        } else {
+            let c = text_letter(s, table, i);
+            let Character::Whole(next, code) = c else {
+                return false;
+            };
+            if k >= word.len() {
+                return false;
+            }
+            if code != word[k] as u32 {
+                return false;
+            }
+            k += 1;
+            i = next;
+        }
+    }
+    k == word.len()
+}
+
+// The digits of a value make a number below 2^32.
+fn decimal(s: &[u8], table: &[u8; 256], from: usize, to: usize) -> Number
+    ensures { λ r. ⌜ r ≡ numberFrom 0 (attributeMeaning (classIn (now (table .entry))) (now (s .entry)) (suc (length (now (s .entry)))) to from) ⌝ }
+{
+    let mut number: u64 = 0;
+    let mut i = from;
+    while i < to {
+        let c = attribute_letter(s, table, i);
+        let Character::Whole(next, code) = c else {
+            return Number::Nothing;
+        };
+        if code < 48 {
+            return Number::Nothing;
+        }
+        if code > 57 {
+            return Number::Nothing;
+        }
+        number = number * 10 + (code - 48) as u64;
+        if number > 4294967295 {
+            return Number::Nothing;
+        }
+        i = next;
+    }
+    Number::Names(number as u32)
+}
+
+// The number that an attribute's value names.
+pub fn number(s: &[u8], table: &[u8; 256], from: usize, to: usize) -> Number
+    ensures { λ r. ⌜ r ≡ numberOf (attributeMeaning (classIn (now (table .entry))) (now (s .entry)) (suc (length (now (s .entry)))) to from) ⌝ }
+{
+    if from >= to {
+        return Number::Nothing;
+    }
+    let c = attribute_letter(s, table, from);
+    let Character::Whole(next, code) = c else {
+        return Number::Nothing;
+    };
+    if code == 48 {
+        if next < to {
+            return Number::Nothing;
+        }
+    }
+    decimal(s, table, from, to)
+}
+
+pub fn status(s: &[u8], table: &[u8; 256], from: usize, to: usize) -> Status
+    ensures { λ r. ⌜ r ≡ statusOf (attributeMeaning (classIn (now (table .entry))) (now (s .entry)) (suc (length (now (s .entry)))) to from) ⌝ }
+{
+    if attribute_means(s, table, from, to, &OK_STATUS) {
+        return Status::Ok;
+    }
+    if attribute_means(s, table, from, to, &REDUNDANT_STATUS) {
+        return Status::RedundantSession;
+    }
+    Status::Other
+}
+
+pub fn advice(s: &[u8], table: &[u8; 256], from: usize, to: usize) -> Advice
+    ensures { λ r. ⌜ r ≡ adviceOf (contentMeaning (classIn (now (table .entry))) (now (s .entry)) (suc (length (now (s .entry)))) to from) ⌝ }
+{
+    if content_means(s, table, from, to, &UNREADABLE_MESSAGE) {
+        return Advice::UnreadableMessage;
+    }
+    Advice::Other
+}
