@@ -65,11 +65,13 @@ def faults_of_edits():
     for path in must_fail_edits():
         crate, label = path.split(os.sep)[-3], os.path.splitext(os.path.basename(path))[0]
         log_path = os.path.join(TOP, "target", "must-fail", crate, label, ".log")
-        tried = os.path.exists(log_path)
-        log = read(log_path) if tried else ""
-        found = refusals(log)
         edits = edits_of(label, read(path))
-        of_the_file = list(faults_of_file(label, edits, found, log)) if tried else ["it was not tried"]
+        if not os.path.exists(log_path):
+            yield crate + "/" + label, ["it was not tried"]
+            continue
+        log = read(log_path)
+        found = refusals(log)
+        of_the_file = list(faults_of_file(label, edits, found, log))
         for name, edit in edits:
             yield crate + "/" + name, of_the_file + list(faults_of_places(edit, found))
 
