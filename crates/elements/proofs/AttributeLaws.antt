@@ -107,7 +107,7 @@ module _ (class : ℕ → ℕ) (s : List ℕ) where
         cond-cases (Past (λ n. n .end) (length s) k) (has (is 58) s first) (λ t.
         past-then (λ e. e) (λ n. n .end) (length s) k _ (partAt class most s (first + 1)) (past-part (first + 1) (omega arith)) (λ last p′ q′. (p′, q′))) (λ t. (p, q)))
 
-  pub name-on : (most : ℕ) {at : ℕ} {n : Named} → nameAt class most s at ≡ whole n → (at < n .end) × (n .end ≤ length s)
+  name-on : (most : ℕ) {at : ℕ} {n : Named} → nameAt class most s at ≡ whole n → (at < n .end) × (n .end ≤ length s)
   name-on most {at} q = past-whole (λ n. n .end) (length s) at q (past-name most at at (omega arith))
 
   -- a name that is taken is in the message, and was not one too many

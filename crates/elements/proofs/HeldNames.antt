@@ -1,45 +1,42 @@
--- Parts of the message that are the same bytes, and the names of attributes held in two arrays. Assumes nothing.
-use Prim.Native.Nat.{ℕ, zero, suc, _+_, _-_, _<_, _≤_}
-use mathlib.Core.Path.{_≡_, refl, ap}
+-- The names of attributes held in two arrays. Assumes nothing.
+use Prim.Native.Nat.{ℕ, zero, suc, _+_, _-_, _<_, _≤_, min}
+use mathlib.Core.Path.{_≡_, refl, sym, _∙_, ap}
 use mathlib.Core.Bool.{true, false, cond}
-use mathlib.Core.List.{List, _∷_}
+use mathlib.Core.List.{List, [], _∷_}
 use native.Mathlib.Numerals.{add-one, sub-one}
 use native.Mathlib.Decide.{decLt}
+use native.Mathlib.Nat.{min-eq-left, min-eq-right}
 use native.Mathlib.Omega.{arith}
-use lib.ListN.{length, getD, set}
-use lib.Seq.{getD-set-same, getD-set-other}
-use lib.Dec.{ltb, leb}
-use borrow.Author.Tests.{eq-eqb, ne-eqb, lt-ltb, le-ltb, le-leb, lt-leb}
+use lib.ListN.{length, getD, set, take, drop}
+use lib.Seq.{take-nil, getD-set-same, getD-set-other}
+use lib.Dec.{ltb}
+use borrow.Author.Tests.{lt-ltb, le-ltb}
 use Rattle.laws.specs.Bytes.{sameBytes}
 use Rattle.message.specs.Reading.{Reading}
 use Rattle.message.specs.Reading.Reading.{whole, refused}
 use Rattle.message.specs.Elements.{part, isKnown}
 use Rattle.elements.specs.Held.{names, Within}
-use Rattle.message.proofs.Parts.{part-none, part-some}
+use Rattle.message.proofs.Parts.{part-none}
 
--- ---- parts of the message
+-- a part of the message as the code lends it
+lent-part : (from d : ℕ) (s : List ℕ) → take (d - from) (drop from s) ≡ part s from d
+lent-part zero d s = let h : d - 0 ≡ d = omega arith in ap (λ (n : ℕ). take n s) h
+lent-part (suc from) d [] = take-nil (d - suc from) ∙ sym (ap (drop (suc from)) (take-nil d))
+lent-part (suc from) zero (x ∷ s) = let h : 0 - suc from ≡ 0 = omega arith in ap (λ (n : ℕ). take n (drop from s)) h
+lent-part (suc from) (suc d) (x ∷ s) =
+    let h : suc d - suc from ≡ d - from = omega arith in ap (λ (n : ℕ). take n (drop from s)) h ∙ lent-part from d s
 
 module _ (s : List ℕ) where
-  module _ (i e k d : ℕ) where
-    pub same-on : i < e → e ≤ length s → k < d → d ≤ length s → getD s i 0 ≡ getD s k 0 → sameBytes (part s (i + 1) e) (part s (k + 1) d) ≡ sameBytes (part s i e) (part s k d)
-    unfolding sameBytes
-    same-on h l h′ l′ q = rw (part-some s i e h l, part-some s k d h′ l′, eq-eqb (getD s i 0) (getD s k 0) q)
+  -- one that would begin behind its end begins at its end
+  part-from : (c d : ℕ) {from : ℕ} → from ≡ min c d → part s from d ≡ part s c d
+  part-from c d h =
+      elim (decLt c d) [
+        | yes m ↦ ap (λ (n : ℕ). part s n d) (h ∙ min-eq-left (omega arith))
+        | no m ↦ ap (λ (n : ℕ). part s n d) (h ∙ min-eq-right (omega arith)) ∙ part-none s d d (omega arith) ∙ sym (part-none s c d (omega arith))
+      ]
 
-    pub same-differs : i < e → e ≤ length s → k < d → d ≤ length s → (getD s i 0 ≡ getD s k 0 → ⊥) → false ≡ sameBytes (part s i e) (part s k d)
-    unfolding sameBytes
-    same-differs h l h′ l′ q = rw (part-some s i e h l, part-some s k d h′ l′, ne-eqb (getD s i 0) (getD s k 0) q)
-
-    pub same-short : i < e → e ≤ length s → d ≤ k → false ≡ sameBytes (part s i e) (part s k d)
-    unfolding sameBytes
-    same-short h l h′ = rw (part-some s i e h l, part-none s k d h′)
-
-    pub same-end : e ≤ i → d ≤ length s → leb d k ≡ sameBytes (part s i e) (part s k d)
-    unfolding sameBytes
-    same-end h l =
-        elim (decLt k d) [
-          | yes m ↦ rw (lt-leb d k m, part-none s i e h, part-some s k d m l)
-          | no m ↦ rw (le-leb d k (omega arith), part-none s i e h, part-none s k d (omega arith))
-        ]
+  pub same-lent : (u : List ℕ) (c d : ℕ) {from : ℕ} → from ≡ min c d → sameBytes u (take (d - from) (drop from s)) ≡ sameBytes u (part s c d)
+  same-lent u c d {from = from} h = ap (sameBytes u) (lent-part from d s ∙ part-from c d h)
 
   -- ---- names held in two arrays
 

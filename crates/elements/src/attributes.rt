@@ -1,5 +1,6 @@
 // The attributes of a start tag: at most 16, none twice.
 use crate::MOST_PART;
+use crate::noted;
 use scan::Name;
 use scan::Place;
 use scan::bytes;
@@ -26,30 +27,17 @@ pub enum Span {
 }
 
 // The bytes from b to e are those from c to d.
-pub(crate) fn same_part(s: &[u8], b: usize, e: usize, c: usize, d: usize) -> bool
-    requires { ⌜ e ≤ length (now s) ⌝ }
+fn same_part(s: &[u8], b: usize, e: usize, c: usize, d: usize) -> bool
     requires { ⌜ d ≤ length (now s) ⌝ }
     ensures { λ r. ⌜ r ≡ sameBytes (part (now (s .entry)) b e) (part (now (s .entry)) c d) ⌝ }
 {
-    let mut i = b;
-    let mut k = c;
-    while i < e {
-        if k >= d {
-            return false;
-        }
-        if s[i] != s[k] {
-            return false;
-        }
-        i += 1;
-        k += 1;
-    }
-    k >= d
+    let from = if c < d { c } else { d };
+    noted::called(s, b, e, &s[from..d])
 }
 
 // The name from b to e is one of the n that stand from starts to stops.
 fn known(s: &[u8], starts: &[usize; 16], stops: &[usize; 16], n: usize, b: usize, e: usize) -> bool
     requires { ⌜ n ≤ 16 ⌝ }
-    requires { ⌜ e ≤ length (now s) ⌝ }
     requires { ⌜ Within (now s) (now stops) n ⌝ }
     ensures { λ r. ⌜ r ≡ isKnown (part (now (s .entry)) b e) (names (now (s .entry)) (now (starts .entry)) (now (stops .entry)) n) ⌝ }
 {

@@ -3,11 +3,10 @@
 use mathlib.Core.Path.{_≡_, refl, sym, ap, _∙_}
 use mathlib.Core.List.{List, _++_}
 use Prim.Native.Nat.{ℕ, _+_, _≤_, _<_}
-use native.Mathlib.Nat.{zero-add}
 use native.Mathlib.Numerals.{add-one}
 use native.Mathlib.Omega.{arith}
 use lib.ListN.{length, take, drop, set, getD, length-set, List·getD-append}
-use lib.Seq.{paste, paste-zero, paste-suc, take-length, length-take-le, length-paste-head, getD-append-add, getD-take, getD-drop}
+use lib.Seq.{paste, paste-zero, paste-suc, length-take-le, length-paste-head, getD-append-add, getD-take, getD-drop}
 
 module _ {A : Type 0} (d : List A) (at : ℕ) (s : List A) (n : ℕ) where
   pub record Copied (i : ℕ) (d′ : List A) : Type 0 where
@@ -30,10 +29,6 @@ module _ {A : Type 0} (d : List A) (at : ℕ) (s : List A) (n : ℕ) where
   copied-all i d′ c out =
       let all : i ≡ n = omega (arith, c .here) in
       rw all at (c .laid)
-
--- the whole of s, laid at the start
-pub paste-start : {A : Type 0} (d s : List A) → paste d 0 s (length s) ≡ s ++ drop (length s) d
-paste-start d s = rw (take-length s, zero-add (length s))
 
 -- what stands at a place once n elements are laid: one of s where they are, and one of d before and behind them
 module _ {A : Type 0} (d : List A) (at : ℕ) (s : List A) (n : ℕ) (z : A) (room : at + n ≤ length d) (enough : n ≤ length s) where

@@ -157,9 +157,6 @@ module _ (s : List ℕ) (k : ℕ) where
 -- ---- what is known of a reading that was whole
 
 module _ (s : List ℕ) (at : ℕ) where
-  pub special-on : (c : Character) → specialAt s at ≡ whole c → (at < c .end) × (c .end ≤ length s)
-  special-on c q = past-whole (λ c. c .end) (length s) at q (past-special s at at (omega arith))
-
   pub beyond-plain-in-on : (class : ℕ → ℕ) (e : ℕ) → beyondPlainInAt class s at ≡ whole e → (at < e) × (e ≤ length s)
   beyond-plain-in-on class e q = past-whole (λ e. e) (length s) at q (past-beyond-plain-in s at class at (omega arith))
 

@@ -1,4 +1,4 @@
--- `reader::attributes::attributes` meets its contract: a tag that ends there has no attributes, and for any other `held` reads them. Assumes
+-- `elements::attributes::attributes` meets its contract: a tag that ends there has no attributes, and for any other `held` reads them. Assumes
 -- nothing.
 use borrow.Author.Needs.{needs}
 use Rattle.elements.proofs.attributes.attributes.Statement.{statement}

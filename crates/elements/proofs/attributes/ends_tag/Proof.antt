@@ -1,4 +1,4 @@
--- `reader::attributes::ends_tag` meets its contract: one of the two bytes stands there, or neither does. Assumes nothing.
+-- `elements::attributes::ends_tag` meets its contract: one of the two bytes stands there, or neither does. Assumes nothing.
 use borrow.Author.Needs.{needs}
 use Rattle.elements.proofs.attributes.ends_tag.Statement.{statement}
 use Rattle.elements.proofs.attributes.ends_tag.Tie as tie

@@ -1,4 +1,4 @@
--- `reader::attributes::fresh` meets its contract: white space, a byte that begins a name, room for one more, and a name that is none of those
+-- `elements::attributes::fresh` meets its contract: white space, a byte that begins a name, room for one more, and a name that is none of those
 -- before it are asked for in the order of the specification. Assumes nothing.
 use borrow.Author.Needs.{needs}
 use Rattle.elements.proofs.attributes.fresh.Statement.{statement}
@@ -7,7 +7,6 @@ use mathlib.Core.Path.{sym, _∙_}
 use Rattle.message.specs.Elements.{freshAt}
 use Rattle.scan.proofs.Said.{place-is, name-is, handed}
 use Rattle.message.proofs.Laws.{went, stopped, cond-true, cond-false}
-use Rattle.elements.proofs.AttributeLaws.{name-on}
 use Rattle.elements.proofs.HeldNames.{room-left, room-none}
 
 space-requires : tie.Need-space-requires
@@ -54,7 +53,7 @@ unfolding freshAt
 returns-4 c = stopped _ (name-is (c .before .before .before .name .ensures) (c .before .r2 .given .1)) ∙ went _ (room-left _ _ _ _ _ _ (c .before .before .before .before .if1 .left)) ∙ went _ (place-is (c .before .before .before .before .before .before .before .start .ensures) (c .before .before .before .before .before .enum-told3 .given .1)) ∙ went _ (place-is (c .before .before .before .before .before .before .before .before .before .before .space .ensures) (c .before .before .before .before .before .before .before .before .enum-told .given .1))
 
 known-requires : tie.Need-known-requires
-known-requires c κs = (c .before .before .before .before .before .before .before .before .before .before .before .before .pre .0, (name-on _ _ _ (name-is (c .before .before .before .name .ensures) (c .before .r .given .1)) .1, c .before .before .before .before .before .before .before .before .before .before .before .before .pre .1))
+known-requires c κs = (c .before .before .before .before .before .before .before .before .before .before .before .before .pre .0, c .before .before .before .before .before .before .before .before .before .before .before .before .pre .1)
 
 returns-5 : tie.Need-returns-5
 unfolding freshAt

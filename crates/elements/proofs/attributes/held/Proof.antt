@@ -1,4 +1,4 @@
--- `reader::attributes::held` meets its contract: the first n entries of the two arrays are where the names read so far stand, the last first, and
+-- `elements::attributes::held` meets its contract: the first n entries of the two arrays are where the names read so far stand, the last first, and
 -- from the place that the loop has come to, beside those names, the specification gives what it gave at the start. Assumes nothing.
 use Rattle.elements.proofs.attributes.held.Statement.{statement}
 use Rattle.elements.proofs.attributes.held.Tie as tie

@@ -1,4 +1,4 @@
--- `reader::attributes::known` meets its contract: the loop goes down from the last name, and none that it has passed is the one that is asked for.
+-- `elements::attributes::known` meets its contract: the loop goes down from the last name, and none that it has passed is the one that is asked for.
 -- Assumes nothing.
 use Rattle.elements.proofs.attributes.known.Statement.{statement}
 use Rattle.elements.proofs.attributes.known.Tie as tie
@@ -34,7 +34,7 @@ element-copy-out-same-part-2 : tie.Need-element-copy-out-same-part-2 Inv-loop μ
 element-copy-out-same-part-2 c = omega arith
 
 same-part-requires : tie.Need-same-part-requires Inv-loop μ-loop
-same-part-requires c κs = (c .before .before .before .before .before .pre .1 .0, c .before .before .before .before .before .pre .1 .1 .each (c .before .before .before .loop .k - 1) (omega arith))
+same-part-requires c κs = c .before .before .before .before .before .pre .1 .each (c .before .before .before .loop .k - 1) (omega arith)
 
 returns : tie.Need-returns Inv-loop μ-loop
 returns c = known-yes _ _ _ _ _ (c .before .before .before .before .loop-test .taken) (sym (c .before .same-part .ensures) ∙ c .if1 .taken) ∙ c .before .before .before .before .before .loop .inv .1

@@ -1,4 +1,4 @@
--- `reader::attributes::quoted` meets its contract: the opening quotation mark and then the value up to its like are read as the specification
+-- `elements::attributes::quoted` meets its contract: the opening quotation mark and then the value up to its like are read as the specification
 -- reads them. Assumes nothing.
 use borrow.Author.Needs.{needs}
 use Rattle.elements.proofs.attributes.quoted.Statement.{statement}

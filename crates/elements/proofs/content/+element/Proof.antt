@@ -1,4 +1,4 @@
--- `reader::content::element` meets its contract. The levels that are left fall where it calls itself. The loop keeps, from each place that it comes to and with what it holds on to by then, what the definition gives from the start of the content. Assumes nothing.
+-- `elements::content::element` meets its contract. The levels that are left fall where it calls itself. The loop keeps, from each place that it comes to and with what it holds on to by then, what the definition gives from the start of the content. Assumes nothing.
 use borrow.Author.Needs.{needs}
 use Prim.Native.Nat.{ℕ, _<_}
 use borrow.Fn.Kinds.{In}

@@ -1,4 +1,4 @@
--- `reader::content::close` meets its contract: the end tag, and with it all that is held on to of the element. Assumes nothing.
+-- `elements::content::close` meets its contract: the end tag, and with it all that is held on to of the element. Assumes nothing.
 use borrow.Author.Needs.{needs}
 use Rattle.elements.proofs.content.close.Statement.{statement}
 use Rattle.elements.proofs.content.close.Tie as tie

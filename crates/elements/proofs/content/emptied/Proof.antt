@@ -1,4 +1,4 @@
--- `reader::content::emptied` meets its contract: the mark and the empty inside are those that are asked for. Assumes nothing.
+-- `elements::content::emptied` meets its contract: the mark and the empty inside are those that are asked for. Assumes nothing.
 use borrow.Author.Needs.{needs}
 use Rattle.elements.proofs.content.emptied.Statement.{statement}
 use Rattle.elements.proofs.content.emptied.Tie as tie

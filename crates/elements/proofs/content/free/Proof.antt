@@ -1,4 +1,4 @@
--- `reader::content::free` meets its contract: from each place that the loop comes to, with fuel that is enough, the definition gives what it gave at the start. Assumes nothing.
+-- `elements::content::free` meets its contract: from each place that the loop comes to, with fuel that is enough, the definition gives what it gave at the start. Assumes nothing.
 use borrow.Author.Needs.{needs}
 use Rattle.elements.proofs.content.free.Statement.{statement}
 use Rattle.elements.proofs.content.free.Tie as tie

@@ -1,4 +1,4 @@
--- `reader::content::start_end` meets its contract: behind a `/` the `>` stands one place on. Assumes nothing.
+-- `elements::content::start_end` meets its contract: behind a `/` the `>` stands one place on. Assumes nothing.
 use Prim.Native.Nat.{ℕ, _+_}
 use mathlib.Core.Path.{_≡_, sym, _∙_}
 use mathlib.Core.Logic.{⊎-elim}

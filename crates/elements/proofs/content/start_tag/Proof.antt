@@ -1,4 +1,4 @@
--- `reader::content::start_tag` meets its contract: a `<`, a name, and what follows it. Assumes nothing.
+-- `elements::content::start_tag` meets its contract: a `<`, a name, and what follows it. Assumes nothing.
 use borrow.Author.Needs.{needs}
 use Rattle.elements.proofs.content.start_tag.Statement.{statement}
 use Rattle.elements.proofs.content.start_tag.Tie as tie

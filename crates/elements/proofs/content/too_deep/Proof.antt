@@ -1,4 +1,4 @@
--- `reader::content::too_deep` meets its contract: a byte that begins a name calls for refusal 10. Assumes nothing.
+-- `elements::content::too_deep` meets its contract: a byte that begins a name calls for refusal 10. Assumes nothing.
 use borrow.Author.Needs.{needs}
 use Rattle.elements.proofs.content.too_deep.Statement.{statement}
 use Rattle.elements.proofs.content.too_deep.Tie as tie

@@ -1,4 +1,4 @@
--- `reader::content::with_name` meets its contract: the attributes, and then the end of the tag. Assumes nothing.
+-- `elements::content::with_name` meets its contract: the attributes, and then the end of the tag. Assumes nothing.
 use borrow.Author.Needs.{needs}
 use Rattle.elements.proofs.content.with_name.Statement.{statement}
 use Rattle.elements.proofs.content.with_name.Tie as tie

@@ -1,4 +1,4 @@
--- `reader::document::begin` meets its contract: each test leads to its case. Assumes nothing.
+-- `elements::document::begin` meets its contract: each test leads to its case. Assumes nothing.
 use borrow.Author.Needs.{needs}
 use Rattle.elements.proofs.document.begin.Statement.{statement}
 use Rattle.elements.proofs.document.begin.Tie as tie

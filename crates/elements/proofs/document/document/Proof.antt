@@ -1,4 +1,4 @@
--- `reader::document::document` meets its contract: 8 before all else, then the declaration, then the root. Assumes nothing.
+-- `elements::document::document` meets its contract: 8 before all else, then the declaration, then the root. Assumes nothing.
 use borrow.Author.Needs.{needs}
 use Rattle.elements.proofs.document.document.Statement.{statement}
 use Rattle.elements.proofs.document.document.Tie as tie

@@ -1,4 +1,4 @@
--- `reader::document::end` meets its contract: a `<` is refused at the byte behind it, and any other byte at its place. Assumes nothing.
+-- `elements::document::end` meets its contract: a `<` is refused at the byte behind it, and any other byte at its place. Assumes nothing.
 use borrow.Author.Needs.{needs}
 use Rattle.elements.proofs.document.end.Statement.{statement}
 use Rattle.elements.proofs.document.end.Tie as tie

@@ -1,4 +1,4 @@
--- `reader::document::root` meets its contract: what stands before the root, the root, what stands behind it, and the end of the message. Assumes nothing.
+-- `elements::document::root` meets its contract: what stands before the root, the root, what stands behind it, and the end of the message. Assumes nothing.
 use borrow.Author.Needs.{needs}
 use Rattle.elements.proofs.document.root.Statement.{statement}
 use Rattle.elements.proofs.document.root.Tie as tie

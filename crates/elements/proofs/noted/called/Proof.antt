@@ -1,4 +1,4 @@
--- `reader::noted::called` meets its contract: where the lengths agree, what the loop has not yet compared is the same exactly if all is. Assumes
+-- `elements::noted::called` meets its contract: where the lengths agree, what the loop has not yet compared is the same exactly if all is. Assumes
 -- nothing.
 use Rattle.elements.proofs.noted.called.Statement.{statement}
 use Rattle.elements.proofs.noted.called.Tie as tie

@@ -1,4 +1,4 @@
--- `reader::noted::mark` meets its contract: the test is that of the name. Assumes nothing.
+-- `elements::noted::mark` meets its contract: the test is that of the name. Assumes nothing.
 use borrow.Author.Needs.{needs}
 use Rattle.elements.proofs.noted.mark.Statement.{statement}
 use Rattle.elements.proofs.noted.mark.Tie as tie

@@ -1,4 +1,4 @@
--- `reader::noted::note` meets its contract: the first child is the one that is noted while there is none. Assumes nothing.
+-- `elements::noted::note` meets its contract: the first child is the one that is noted while there is none. Assumes nothing.
 use borrow.Author.Needs.{needs}
 use Rattle.elements.proofs.noted.note.Statement.{statement}
 use Rattle.elements.proofs.noted.note.Tie as tie

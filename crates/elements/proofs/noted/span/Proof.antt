@@ -1,4 +1,4 @@
--- `reader::noted::span` meets its contract: the part ends where the message does at the latest, and it may begin behind its end. Assumes nothing.
+-- `elements::noted::span` meets its contract: the part ends where the message does at the latest, and it may begin behind its end. Assumes nothing.
 use borrow.Author.Needs.{needs}
 use Rattle.elements.proofs.noted.span.Statement.{statement}
 use Rattle.elements.proofs.noted.span.Tie as tie

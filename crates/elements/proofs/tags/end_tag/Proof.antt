@@ -1,4 +1,4 @@
--- `reader::tags::end_tag` meets its contract: a name that is repeated whole, with `>` at once behind it, is what the longer way would read too.
+-- `elements::tags::end_tag` meets its contract: a name that is repeated whole, with `>` at once behind it, is what the longer way would read too.
 -- Assumes nothing.
 use borrow.Author.Needs.{needs}
 use Rattle.elements.proofs.tags.end_tag.Statement.{statement}

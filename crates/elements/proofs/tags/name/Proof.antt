@@ -1,4 +1,4 @@
--- `reader::tags::name` meets its contract: the parts of the name and the colon between them are read again one after the other. Assumes nothing.
+-- `elements::tags::name` meets its contract: the parts of the name and the colon between them are read again one after the other. Assumes nothing.
 use borrow.Author.Needs.{needs}
 use Rattle.elements.proofs.tags.name.Statement.{statement}
 use Rattle.elements.proofs.tags.name.Tie as tie

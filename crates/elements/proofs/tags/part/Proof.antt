@@ -1,4 +1,4 @@
--- `reader::tags::part` meets its contract: behind the bytes that are repeated the run of name bytes ends where it ends from the first. Assumes nothing.
+-- `elements::tags::part` meets its contract: behind the bytes that are repeated the run of name bytes ends where it ends from the first. Assumes nothing.
 use borrow.Author.Needs.{needs}
 use Rattle.elements.proofs.tags.part.Statement.{statement}
 use Rattle.elements.proofs.tags.part.Tie as tie

@@ -1,4 +1,4 @@
--- `reader::tags::repeated` meets its contract: from the two places that the loop comes to, what is left of the bytes is repeated up to where all of
+-- `elements::tags::repeated` meets its contract: from the two places that the loop comes to, what is left of the bytes is repeated up to where all of
 -- them are. Assumes nothing.
 use Rattle.elements.proofs.tags.repeated.Statement.{statement}
 use Rattle.elements.proofs.tags.repeated.Tie as tie

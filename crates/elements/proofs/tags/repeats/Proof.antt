@@ -1,4 +1,4 @@
--- `reader::tags::repeats` meets its contract: what the loop has not yet compared is repeated exactly if all is. Assumes nothing.
+-- `elements::tags::repeats` meets its contract: what the loop has not yet compared is repeated exactly if all is. Assumes nothing.
 use Rattle.elements.proofs.tags.repeats.Statement.{statement}
 use Rattle.elements.proofs.tags.repeats.Tie as tie
 use Prim.Native.Nat.{_+_, _-_}

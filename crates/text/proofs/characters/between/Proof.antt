@@ -1,4 +1,4 @@
--- `scan::characters::between` meets its contract: it reads on where such a byte stands, and refuses where none does. Assumes nothing.
+-- `text::characters::between` meets its contract: it reads on where such a byte stands, and refuses where none does. Assumes nothing.
 use borrow.Author.Needs.{needs}
 use Rattle.text.proofs.characters.between.Statement.{statement}
 use Rattle.text.proofs.characters.between.Tie as tie

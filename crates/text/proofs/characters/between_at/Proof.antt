@@ -1,4 +1,4 @@
--- `scan::characters::between_at` meets its contract: the byte is held to both ends of the range in the contract's order. Assumes nothing.
+-- `text::characters::between_at` meets its contract: the byte is held to both ends of the range in the contract's order. Assumes nothing.
 use borrow.Author.Needs.{needs}
 use Rattle.text.proofs.characters.between_at.Statement.{statement}
 use Rattle.text.proofs.characters.between_at.Tie as tie

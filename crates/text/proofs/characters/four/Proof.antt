@@ -1,4 +1,4 @@
--- `scan::characters::four` meets its contract: the readings are the contract's in its order, with the second byte's range that the first one gives, and the ranges keep the number small. Assumes nothing.
+-- `text::characters::four` meets its contract: the readings are the contract's in its order, with the second byte's range that the first one gives, and the ranges keep the number small. Assumes nothing.
 use borrow.Author.Needs.{needs}
 use Rattle.text.proofs.characters.four.Statement.{statement}
 use Rattle.text.proofs.characters.four.Tie as tie

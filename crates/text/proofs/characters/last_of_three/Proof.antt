@@ -1,4 +1,4 @@
--- `scan::characters::last_of_three` meets its contract: each way out is one case of the contract's test. Assumes nothing.
+-- `text::characters::last_of_three` meets its contract: each way out is one case of the contract's test. Assumes nothing.
 use Rattle.text.proofs.characters.last_of_three.Statement.{statement}
 use Rattle.text.proofs.characters.last_of_three.Tie as tie
 use mathlib.Core.Path.{_∙_, sym}

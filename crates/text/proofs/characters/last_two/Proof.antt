@@ -1,4 +1,4 @@
--- `scan::characters::last_two` meets its contract: the readings are the contract's in its order, and what is required of the number before them keeps it small. Assumes nothing.
+-- `text::characters::last_two` meets its contract: the readings are the contract's in its order, and what is required of the number before them keeps it small. Assumes nothing.
 use borrow.Author.Needs.{needs}
 use Rattle.text.proofs.characters.last_two.Statement.{statement}
 use Rattle.text.proofs.characters.last_two.Tie as tie

@@ -1,4 +1,4 @@
--- `scan::characters::long` meets its contract: the first byte tells how many follow. Assumes nothing.
+-- `text::characters::long` meets its contract: the first byte tells how many follow. Assumes nothing.
 use borrow.Author.Needs.{needs}
 use Rattle.text.proofs.characters.long.Statement.{statement}
 use Rattle.text.proofs.characters.long.Tie as tie

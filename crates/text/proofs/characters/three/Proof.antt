@@ -1,4 +1,4 @@
--- `scan::characters::three` meets its contract: the readings are the contract's in its order, with the second byte's range that the first one gives, and the ranges keep the number small. Assumes nothing.
+-- `text::characters::three` meets its contract: the readings are the contract's in its order, with the second byte's range that the first one gives, and the ranges keep the number small. Assumes nothing.
 use borrow.Author.Needs.{needs}
 use Rattle.text.proofs.characters.three.Statement.{statement}
 use Rattle.text.proofs.characters.three.Tie as tie

@@ -1,4 +1,4 @@
--- `scan::characters::two` meets its contract: the readings are the contract's, and the ranges that the bytes lie in keep the number small. Assumes nothing.
+-- `text::characters::two` meets its contract: the readings are the contract's, and the ranges that the bytes lie in keep the number small. Assumes nothing.
 use borrow.Author.Needs.{needs}
 use Rattle.text.proofs.characters.two.Statement.{statement}
 use Rattle.text.proofs.characters.two.Tie as tie

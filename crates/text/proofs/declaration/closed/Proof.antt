@@ -1,4 +1,4 @@
--- `scan::declaration::closed` meets its contract: where the value begins at 0 or past the end, no quotation mark stands before it. Assumes nothing.
+-- `text::declaration::closed` meets its contract: where the value begins at 0 or past the end, no quotation mark stands before it. Assumes nothing.
 use borrow.Author.Needs.{needs}
 use Rattle.text.proofs.declaration.closed.Statement.{statement}
 use Rattle.text.proofs.declaration.closed.Tie as tie

@@ -1,4 +1,4 @@
--- `scan::declaration::declaration` meets its contract: each `return` hands on the refusal of the reading before it, and every reading before that one
+-- `text::declaration::declaration` meets its contract: each `return` hands on the refusal of the reading before it, and every reading before that one
 -- was whole; behind the version either `?>` or the encoding follows. Assumes nothing.
 use borrow.Author.Needs.{needs}
 use Rattle.text.proofs.declaration.declaration.Statement.{statement}

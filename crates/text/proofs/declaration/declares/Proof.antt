@@ -1,4 +1,4 @@
--- `scan::declaration::declares` meets its contract: the byte behind `<?xml` is looked at where that word stands. Assumes nothing.
+-- `text::declaration::declares` meets its contract: the byte behind `<?xml` is looked at where that word stands. Assumes nothing.
 use borrow.Author.Needs.{needs}
 use Rattle.text.proofs.declaration.declares.Statement.{statement}
 use Rattle.text.proofs.declaration.declares.Tie as tie

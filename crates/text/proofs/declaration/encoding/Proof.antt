@@ -1,4 +1,4 @@
--- `scan::declaration::encoding` meets its contract: each `return` hands on the refusal of the reading before it, and every reading before that one was
+-- `text::declaration::encoding` meets its contract: each `return` hands on the refusal of the reading before it, and every reading before that one was
 -- whole. Assumes nothing.
 use borrow.Author.Needs.{needs}
 use Rattle.text.proofs.declaration.encoding.Statement.{statement}

@@ -1,4 +1,4 @@
--- `scan::declaration::utf8` meets its contract: the first letter tells the small letters from the capitals. Assumes nothing.
+-- `text::declaration::utf8` meets its contract: the first letter tells the small letters from the capitals. Assumes nothing.
 use borrow.Author.Needs.{needs}
 use Rattle.text.proofs.declaration.utf8.Statement.{statement}
 use Rattle.text.proofs.declaration.utf8.Tie as tie

@@ -1,4 +1,4 @@
--- `scan::markup::around` meets its contract: from each place that the loop comes to, with fuel that is enough, the specification gives what it gave at
+-- `text::markup::around` meets its contract: from each place that the loop comes to, with fuel that is enough, the specification gives what it gave at
 -- the start. Assumes nothing.
 use Rattle.text.proofs.markup.around.Statement.{statement}
 use Rattle.text.proofs.markup.around.Tie as tie

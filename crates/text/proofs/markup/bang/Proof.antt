@@ -1,4 +1,4 @@
--- `scan::markup::bang` meets its contract: of the two openings that are left out neither is passed over, and each `return` hands on the refusal of the
+-- `text::markup::bang` meets its contract: of the two openings that are left out neither is passed over, and each `return` hands on the refusal of the
 -- reading before it. Assumes nothing.
 use borrow.Author.Needs.{needs}
 use Rattle.text.proofs.markup.bang.Statement.{statement}

@@ -1,4 +1,4 @@
--- `scan::markup::opens_at` meets its contract: the second byte is looked at where the first is `<`. Assumes nothing.
+-- `text::markup::opens_at` meets its contract: the second byte is looked at where the first is `<`. Assumes nothing.
 use borrow.Author.Needs.{needs}
 use Rattle.text.proofs.markup.opens_at.Statement.{statement}
 use Rattle.text.proofs.markup.opens_at.Tie as tie

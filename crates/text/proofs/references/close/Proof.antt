@@ -1,4 +1,4 @@
--- `scan::references::close` meets its contract: a `;` and the number's legality are looked at in the contract's order. Assumes nothing.
+-- `text::references::close` meets its contract: a `;` and the number's legality are looked at in the contract's order. Assumes nothing.
 use borrow.Author.Needs.{needs}
 use Rattle.text.proofs.references.close.Statement.{statement}
 use Rattle.text.proofs.references.close.Tie as tie

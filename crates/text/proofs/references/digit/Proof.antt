@@ -1,4 +1,4 @@
--- `scan::references::digit` meets its contract: each way out is one of the contract's ranges, and what is required of the byte keeps the differences above 0. Assumes nothing.
+-- `text::references::digit` meets its contract: each way out is one of the contract's ranges, and what is required of the byte keeps the differences above 0. Assumes nothing.
 use borrow.Author.Needs.{needs}
 use Rattle.text.proofs.references.digit.Statement.{statement}
 use Rattle.text.proofs.references.digit.Tie as tie

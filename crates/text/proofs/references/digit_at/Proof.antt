@@ -1,4 +1,4 @@
--- `scan::references::digit_at` meets its contract: inside the message the byte is looked at, and past its end there is none. Assumes nothing.
+-- `text::references::digit_at` meets its contract: inside the message the byte is looked at, and past its end there is none. Assumes nothing.
 use borrow.Author.Needs.{needs}
 use Rattle.text.proofs.references.digit_at.Statement.{statement}
 use Rattle.text.proofs.references.digit_at.Tie as tie

@@ -1,4 +1,4 @@
--- `scan::references::digits` meets its contract: from each place and number that the loop comes to, the digits left give what was asked for at the start. The number stays that of a character, so the next one fits. Assumes nothing.
+-- `text::references::digits` meets its contract: from each place and number that the loop comes to, the digits left give what was asked for at the start. The number stays that of a character, so the next one fits. Assumes nothing.
 use Rattle.text.proofs.references.digits.Statement.{statement}
 use Rattle.text.proofs.references.digits.Tie as tie
 use denote.Ref.{now}

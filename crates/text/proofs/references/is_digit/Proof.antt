@@ -1,4 +1,4 @@
--- `scan::references::is_digit` meets its contract: what it refuses lies in none of the three ranges, and what is left is a digit by what it counts. Assumes nothing.
+-- `text::references::is_digit` meets its contract: what it refuses lies in none of the three ranges, and what is left is a digit by what it counts. Assumes nothing.
 use Rattle.text.proofs.references.is_digit.Statement.{statement}
 use Rattle.text.proofs.references.is_digit.Tie as tie
 use mathlib.Core.Path.{sym, ap, _∙_}

@@ -1,4 +1,4 @@
--- `scan::references::legal` meets its contract: each answer is given in a range of numbers where the contract's tests come to it. Assumes nothing.
+-- `text::references::legal` meets its contract: each answer is given in a range of numbers where the contract's tests come to it. Assumes nothing.
 use Rattle.text.proofs.references.legal.Statement.{statement}
 use Rattle.text.proofs.references.legal.Tie as tie
 use Prim.Native.Nat.{ℕ, _<_, _≤_}

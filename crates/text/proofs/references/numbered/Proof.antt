@@ -1,4 +1,4 @@
--- `scan::references::numbered` meets its contract: the readings are the contract's in its order: a digit, the digits from there on, and the `;`. Assumes nothing.
+-- `text::references::numbered` meets its contract: the readings are the contract's in its order: a digit, the digits from there on, and the `;`. Assumes nothing.
 use borrow.Author.Needs.{needs}
 use Rattle.text.proofs.references.numbered.Statement.{statement}
 use Rattle.text.proofs.references.numbered.Tie as tie

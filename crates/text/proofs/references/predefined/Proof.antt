@@ -1,4 +1,4 @@
--- `scan::references::predefined` meets its contract: the first byte, and after `a` the second, tell the five names apart. Assumes nothing.
+-- `text::references::predefined` meets its contract: the first byte, and after `a` the second, tell the five names apart. Assumes nothing.
 use borrow.Author.Needs.{needs}
 use Rattle.text.proofs.references.predefined.Statement.{statement}
 use Rattle.text.proofs.references.predefined.Tie as tie

@@ -1,4 +1,4 @@
--- `scan::references::reference` meets its contract: the byte behind the `&`, and the one behind `#`, tell the three kinds apart. Assumes nothing.
+-- `text::references::reference` meets its contract: the byte behind the `&`, and the one behind `#`, tell the three kinds apart. Assumes nothing.
 use borrow.Author.Needs.{needs}
 use Rattle.text.proofs.references.reference.Statement.{statement}
 use Rattle.text.proofs.references.reference.Tie as tie

@@ -1,4 +1,4 @@
--- `scan::references::stands` meets its contract: it hands on what the reading of the word gave. Assumes nothing.
+-- `text::references::stands` meets its contract: it hands on what the reading of the word gave. Assumes nothing.
 use borrow.Author.Needs.{needs}
 use Rattle.text.proofs.references.stands.Statement.{statement}
 use Rattle.text.proofs.references.stands.Tie as tie

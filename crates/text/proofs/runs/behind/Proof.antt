@@ -1,4 +1,4 @@
--- `scan::text::behind` meets its contract: a character that was read ends where it says, and a refusal stays as it is. Assumes nothing.
+-- `text::runs::behind` meets its contract: a character that was read ends where it says, and a refusal stays as it is. Assumes nothing.
 use borrow.Author.Needs.{needs}
 use Rattle.text.proofs.runs.behind.Statement.{statement}
 use Rattle.text.proofs.runs.behind.Tie as tie

@@ -1,4 +1,4 @@
--- `scan::text::beyond_note` meets its contract: a `-` is read as such, and anything else as the contract's character. Assumes nothing.
+-- `text::runs::beyond_note` meets its contract: a `-` is read as such, and anything else as the contract's character. Assumes nothing.
 use borrow.Author.Needs.{needs}
 use Rattle.text.proofs.runs.beyond_note.Statement.{statement}
 use Rattle.text.proofs.runs.beyond_note.Tie as tie

@@ -1,4 +1,4 @@
--- `scan::text::beyond_plain` meets its contract: a `]` is read as such, and anything else as in a value. Assumes nothing.
+-- `text::runs::beyond_plain` meets its contract: a `]` is read as such, and anything else as in a value. Assumes nothing.
 use Rattle.text.proofs.runs.beyond_plain.Statement.{statement}
 use Rattle.text.proofs.runs.beyond_plain.Tie as tie
 use borrow.Author.Needs.{needs}

@@ -1,4 +1,4 @@
--- `scan::text::beyond_plain_in` meets its contract: a byte of text is read as such, and anything else as the contract's reference or character. Assumes nothing.
+-- `text::runs::beyond_plain_in` meets its contract: a byte of text is read as such, and anything else as the contract's reference or character. Assumes nothing.
 use Rattle.text.proofs.runs.beyond_plain_in.Statement.{statement}
 use Rattle.text.proofs.runs.beyond_plain_in.Tie as tie
 use borrow.Author.Needs.{needs}

@@ -1,4 +1,4 @@
--- `scan::text::bracket` meets its contract: `]]>` is refused where both bytes behind the `]` stand, and on any other way one of them does not. Assumes nothing.
+-- `text::runs::bracket` meets its contract: `]]>` is refused where both bytes behind the `]` stand, and on any other way one of them does not. Assumes nothing.
 use borrow.Author.Needs.{needs}
 use Rattle.text.proofs.runs.bracket.Statement.{statement}
 use Rattle.text.proofs.runs.bracket.Tie as tie

@@ -1,4 +1,4 @@
--- `scan::text::comment` meets its contract: at each stop that the loop comes to, what is left to read gives what was asked for at the start. Assumes nothing.
+-- `text::runs::comment` meets its contract: at each stop that the loop comes to, what is left to read gives what was asked for at the start. Assumes nothing.
 use Rattle.text.proofs.runs.comment.Statement.{statement}
 use Rattle.text.proofs.runs.comment.Tie as tie
 use borrow.Author.Needs.{needs}

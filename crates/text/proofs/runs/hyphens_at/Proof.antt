@@ -1,4 +1,4 @@
--- `scan::text::hyphens_at` meets its contract: the two bytes are looked at in the contract's order, and the first keeps the second's place small. Assumes nothing.
+-- `text::runs::hyphens_at` meets its contract: the two bytes are looked at in the contract's order, and the first keeps the second's place small. Assumes nothing.
 use borrow.Author.Needs.{needs}
 use Rattle.text.proofs.runs.hyphens_at.Statement.{statement}
 use Rattle.text.proofs.runs.hyphens_at.Tie as tie

@@ -1,4 +1,4 @@
--- `scan::text::plain_note` meets its contract: `<` and `&` pass whatever their class is, and any other byte passes by its class. Assumes nothing.
+-- `text::runs::plain_note` meets its contract: `<` and `&` pass whatever their class is, and any other byte passes by its class. Assumes nothing.
 use borrow.Author.Needs.{needs}
 use Rattle.text.proofs.runs.plain_note.Statement.{statement}
 use Rattle.text.proofs.runs.plain_note.Tie as tie

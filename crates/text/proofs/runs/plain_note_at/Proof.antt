@@ -1,4 +1,4 @@
--- `scan::text::plain_note_at` meets its contract: inside the message the byte is looked at, and past its end there is none. Assumes nothing.
+-- `text::runs::plain_note_at` meets its contract: inside the message the byte is looked at, and past its end there is none. Assumes nothing.
 use borrow.Author.Needs.{needs}
 use Rattle.text.proofs.runs.plain_note_at.Statement.{statement}
 use Rattle.text.proofs.runs.plain_note_at.Tie as tie

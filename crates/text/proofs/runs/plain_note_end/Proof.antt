@@ -1,4 +1,4 @@
--- `scan::text::plain_note_end` meets its contract: from each place that the loop comes to, the run ends where it ends from the first. Assumes nothing.
+-- `text::runs::plain_note_end` meets its contract: from each place that the loop comes to, the run ends where it ends from the first. Assumes nothing.
 use Rattle.text.proofs.runs.plain_note_end.Statement.{statement}
 use Rattle.text.proofs.runs.plain_note_end.Tie as tie
 use mathlib.Core.Path.{_≡_, refl, sym, _∙_}

@@ -1,4 +1,4 @@
--- `scan::text::special` meets its contract: an `&` begins a reference, and any other byte a character of more than one. Assumes nothing.
+-- `text::runs::special` meets its contract: an `&` begins a reference, and any other byte a character of more than one. Assumes nothing.
 use borrow.Author.Needs.{needs}
 use Rattle.text.proofs.runs.special.Statement.{statement}
 use Rattle.text.proofs.runs.special.Tie as tie

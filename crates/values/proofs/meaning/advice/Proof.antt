@@ -1,4 +1,4 @@
--- `reader::meaning::advice` meets its contract: the content is compared with the one text that means something. Assumes nothing.
+-- `values::meaning::advice` meets its contract: the content is compared with the one text that means something. Assumes nothing.
 use borrow.Author.Needs.{needs}
 use Rattle.values.proofs.meaning.advice.Statement.{statement}
 use Rattle.values.proofs.meaning.advice.Tie as tie

@@ -1,4 +1,4 @@
--- `reader::meaning::attribute_letter` meets its contract: where a break stands it is a space, and otherwise a letter is read. Assumes nothing.
+-- `values::meaning::attribute_letter` meets its contract: where a break stands it is a space, and otherwise a letter is read. Assumes nothing.
 use borrow.Author.Needs.{needs}
 use Rattle.values.proofs.meaning.attribute_letter.Statement.{statement}
 use Rattle.values.proofs.meaning.attribute_letter.Tie as tie

@@ -1,4 +1,4 @@
--- `reader::meaning::attribute_means` meets its contract: from each place of the value and of the word that the loop comes to, the letters left mean
+-- `values::meaning::attribute_means` meets its contract: from each place of the value and of the word that the loop comes to, the letters left mean
 -- what is left of the word just where the value means the word. A letter that is refused, is one too many or differs decides that it does not.
 -- Assumes nothing.
 use Rattle.values.proofs.meaning.attribute_means.Statement.{statement}

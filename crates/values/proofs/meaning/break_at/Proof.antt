@@ -1,4 +1,4 @@
--- `reader::meaning::break_at` meets its contract: the three bytes are looked for one after the other. Assumes nothing.
+-- `values::meaning::break_at` meets its contract: the three bytes are looked for one after the other. Assumes nothing.
 use borrow.Author.Needs.{needs}
 use Rattle.values.proofs.meaning.break_at.Statement.{statement}
 use Rattle.values.proofs.meaning.break_at.Tie as tie

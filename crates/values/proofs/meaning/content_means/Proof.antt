@@ -1,4 +1,4 @@
--- `reader::meaning::content_means` meets its contract: from each place of the content and of the word that the loop comes to, the letters left mean
+-- `values::meaning::content_means` meets its contract: from each place of the content and of the word that the loop comes to, the letters left mean
 -- what is left of the word just where the content means the word. A comment leaves the word as it is; a letter that is refused, is one too many or
 -- differs decides that it does not. Assumes nothing.
 use Rattle.values.proofs.meaning.content_means.Statement.{statement}

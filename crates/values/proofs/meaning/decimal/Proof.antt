@@ -1,4 +1,4 @@
--- `reader::meaning::decimal` meets its contract: from each place and number that the loop comes to, the letters left make of the number what all of
+-- `values::meaning::decimal` meets its contract: from each place and number that the loop comes to, the letters left make of the number what all of
 -- them make of 0. The number stays below 2^32, so the next one fits. Assumes nothing.
 use Rattle.values.proofs.meaning.decimal.Statement.{statement}
 use Rattle.values.proofs.meaning.decimal.Tie as tie

@@ -1,4 +1,4 @@
--- `reader::meaning::letter` meets its contract: a byte of any class stands for itself, and where none stands a reference or a longer character is
+-- `values::meaning::letter` meets its contract: a byte of any class stands for itself, and where none stands a reference or a longer character is
 -- read. Assumes nothing.
 use borrow.Author.Needs.{needs}
 use Rattle.values.proofs.meaning.letter.Statement.{statement}

@@ -1,4 +1,4 @@
--- `reader::meaning::line_end` meets its contract: two bytes where CR LF stands, and one otherwise. Assumes nothing.
+-- `values::meaning::line_end` meets its contract: two bytes where CR LF stands, and one otherwise. Assumes nothing.
 use borrow.Author.Needs.{needs}
 use Rattle.values.proofs.meaning.line_end.Statement.{statement}
 use Rattle.values.proofs.meaning.line_end.Tie as tie

@@ -1,4 +1,4 @@
--- `reader::meaning::number` meets its contract: a value that is empty, that is refused at its first letter, or whose first letter is a zero with
+-- `values::meaning::number` meets its contract: a value that is empty, that is refused at its first letter, or whose first letter is a zero with
 -- others behind it names none, and otherwise its digits are counted. Assumes nothing.
 use borrow.Author.Needs.{needs}
 use Rattle.values.proofs.meaning.number.Statement.{statement}

@@ -1,4 +1,4 @@
--- `reader::meaning::status` meets its contract: the value is compared with the two texts in the order of the contract. Assumes nothing.
+-- `values::meaning::status` meets its contract: the value is compared with the two texts in the order of the contract. Assumes nothing.
 use borrow.Author.Needs.{needs}
 use Rattle.values.proofs.meaning.status.Statement.{statement}
 use Rattle.values.proofs.meaning.status.Tie as tie

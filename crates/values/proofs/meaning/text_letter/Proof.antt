@@ -1,4 +1,4 @@
--- `reader::meaning::text_letter` meets its contract: a line end that begins with CR is a line feed, and otherwise a letter is read. Assumes nothing.
+-- `values::meaning::text_letter` meets its contract: a line end that begins with CR is a line feed, and otherwise a letter is read. Assumes nothing.
 use borrow.Author.Needs.{needs}
 use Rattle.values.proofs.meaning.text_letter.Statement.{statement}
 use Rattle.values.proofs.meaning.text_letter.Tie as tie
