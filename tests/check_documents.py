@@ -8,7 +8,7 @@ import os
 import re
 import sys
 
-from reporting import TOP, files, must_fail_edits, read, report
+from reporting import TOP, edits_of, files, must_fail_edits, read, report
 
 LINK = re.compile(r"\[([^\]]*)\]\(([^)\s]+)\)")
 NAME = re.compile(r"`([^`\s]+)`$")
@@ -44,9 +44,12 @@ def faults_of_links():
 
 def faults_of_omission():
     demands = read(os.path.join(TOP, "docs", "DEMANDS.md"))
-    for edit in must_fail_edits():
-        cited = os.path.relpath(edit, TOP)
-        yield "docs/DEMANDS.md", [] if cited in demands else ["does not cite " + cited]
+    for path in must_fail_edits():
+        file = os.path.relpath(path, TOP)
+        for label, _ in edits_of(os.path.splitext(os.path.basename(path))[0], read(path)):
+            name = label.split("/")[-1]
+            cited = "[`%s`](../%s)" % (name, file) in demands
+            yield "docs/DEMANDS.md", [] if cited else ["does not cite %s of %s" % (name, file)]
     for promises in files("crates", "*", "specs", "Promises.antt"):
         for statement in STATEMENT.findall(read(promises)):
             yield "docs/DEMANDS.md", [] if "`%s`" % statement in demands else ["does not cite " + statement]

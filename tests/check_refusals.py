@@ -1,8 +1,8 @@
 #!/usr/bin/env python3
 """Checks why each must-fail edit was refused, in the logs that `rt ci` or `rt must-fail` left below target/must-fail/.
 
-An edit says where it has to be refused, by a line 'at: FILE NAME': the prover must have refused NAME in FILE for a reason of its own, and
-not because something that it cites was refused. Edits of functions that have nothing to do with each other may share a file, each after a
+An edit says where it has to be refused, by a line 'at: FILE NAME', or 'at: FUNCTION NAME' for a function that the prover proves without a
+file: it must have refused NAME there for a reason of its own, and not because something that it cites was refused. Edits of functions that have nothing to do with each other may share a file, each after a
 line 'edit: NAME': a proof looks at the function's own code and at the contracts of what it calls, so one check tries them all. An edit
 whose file's name begins both_ or stream_ leaves code and contracts in agreement, so nothing of the code may be refused for a reason of its
 own. And no edit may only have made a proof unfit for the code's shape.
@@ -12,32 +12,23 @@ import os
 import re
 import sys
 
-from reporting import TOP, must_fail_edits, read, report
+from reporting import TOP, edits_of, must_fail_edits, read, report
 
 AT = re.compile(r"^at: (\S+) (\S+)$", re.MULTILINE)
-EDIT = re.compile(r"^edit: (\S+)$", re.MULTILINE)
 ERROR = re.compile(r"((?:src|specs|proofs)/\S+?):\d+:\d+: error: `([^`]+)`: (.*)")
-UNPROVED = re.compile(r"note: \S*?((?:src)/\S+?):\d+:\d+: it is not proved .*\(`([^`]+)`\)")
+UNPROVED = re.compile(r"^fn (\S+): no proof: .*`search` does not close ([^;\n]*)", re.MULTILINE)
 FOLLOWS = "was not admitted"
 UNFIT = re.compile(r"that can be named from here|expected type `tie\.Need")
 
 
 def refusals(log):
-    """(file, name) of everything that was refused for a reason of its own."""
+    """(place, name) of everything that was refused for a reason of its own: a file, or a function that has no proof file."""
     own = {(file, name) for file, name, why in ERROR.findall(log) if FOLLOWS not in why}
-    return own | set(UNPROVED.findall(log))
+    return own | {(function, name) for function, names in UNPROVED.findall(log) for name in re.findall("`([^`]+)`", names)}
 
 
-def of_the_code(file):
-    return file.startswith("src/") or file.endswith("/Proof.antt")
-
-
-def edits_of(label, text):
-    """(name, text) of each edit of a file; a file with no line 'edit: NAME' is one edit."""
-    pieces = EDIT.split(text)
-    if len(pieces) == 1:
-        return [(label, text)]
-    return [(label + "/" + name, piece) for name, piece in zip(pieces[1::2], pieces[2::2])]
+def of_the_code(place):
+    return "::" in place or place.endswith("/Proof.antt")
 
 
 def faults_of_places(edit, found):
@@ -50,9 +41,9 @@ def faults_of_places(edit, found):
 
 
 def faults_of_file(label, edits, found, log):
-    proofs = [file for _, edit in edits for file in {file for file, _ in AT.findall(edit)} if not file.startswith("src/")]
-    for file in sorted({file for file in proofs if proofs.count(file) > 1}):
-        yield "two of its edits are refused in %s, so one may hide the other" % file
+    places = [place for _, edit in edits for place in {place for place, _ in AT.findall(edit)}]
+    for place in sorted({place for place in places if places.count(place) > 1}):
+        yield "two of its edits are refused in %s, so one may hide the other" % place
     if label.startswith(("both_", "stream_")):
         for file, name in sorted(found):
             if of_the_code(file):

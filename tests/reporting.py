@@ -1,8 +1,10 @@
 """What the checks of documents and of logs share: finding files, reading them, and reporting faults."""
 import glob
 import os
+import re
 
 TOP = os.path.dirname(os.path.dirname(os.path.abspath(__file__)))
+EDIT = re.compile(r"^edit: (\S+)$", re.MULTILINE)
 
 
 def files(*pattern):
@@ -12,6 +14,14 @@ def files(*pattern):
 
 def must_fail_edits():
     return files("crates", "*", "must-fail", "*.edit")
+
+
+def edits_of(label, text):
+    """(name, text) of each edit of a file; a file with no line 'edit: NAME' is one edit."""
+    pieces = EDIT.split(text)
+    if len(pieces) == 1:
+        return [(label, text)]
+    return [(label + "/" + name, piece) for name, piece in zip(pieces[1::2], pieces[2::2])]
 
 
 def read(path):
