@@ -12,4 +12,6 @@ pub mod Limits
 pub mod Elements
 pub mod Values
 pub mod Messages
+pub mod Readable
+pub mod Raised
 mod Examples

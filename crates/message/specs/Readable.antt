@@ -1,0 +1,82 @@
+-- Document 01, "The restricted XML": what its places of refusal are said in. A message is readable if it is read whole with some limits, so with those behind
+-- 8, 10, 11 and 14 out of the way, and with 13 left aside. All that follows speaks of continuations of the bytes before a place. Assumes nothing.
+use Prim.Native.Nat.{ℕ, zero, suc, _+_}
+use mathlib.Core.Path.{_≡_}
+use mathlib.Core.Bool.{Bool, true, _||_}
+use mathlib.Core.List.{List, [], _∷_, _++_}
+use lib.ListN.{length, take}
+use lib.Dec.{eqb}
+use Rattle.message.specs.Class.{classOf, isStart, isName, isSpace}
+use Rattle.message.specs.Reading.{is, has, blanks}
+use Rattle.message.specs.Reading.Reading.{whole}
+use Rattle.message.specs.Names.{Named, nameAt}
+use Rattle.message.specs.Limits.{Limits}
+use Rattle.message.specs.Elements.{Element, Quoted, quotedAt, documentAt}
+
+abbrev pub Readable : List ℕ → Type 0
+Readable s = (l : Limits) × (root : Element) × (documentAt classOf s l 0 ≡ whole root)
+
+-- some continuation of these bytes is readable
+abbrev pub Continues : List ℕ → Type 0
+Continues w = (u : List ℕ) × Readable (w ++ u)
+
+-- `<!-- -->`
+abbrev pub aComment : List ℕ
+aComment = 60 ∷ 33 ∷ 45 ∷ 45 ∷ 32 ∷ 45 ∷ 45 ∷ 62 ∷ []
+
+-- markup may begin behind these bytes: a whole comment may stand there
+abbrev pub MarkupMayBegin : List ℕ → Type 0
+MarkupMayBegin w = Continues (w ++ aComment)
+
+-- ---- open elements
+
+-- end tags, one behind the other
+abbrev pub endTags : List (List ℕ) → List ℕ
+endTags [] = []
+endTags (name ∷ names) = 60 ∷ 47 ∷ (name ++ (62 ∷ endTags names))
+
+-- made of bytes of names, and colons
+abbrev pub NameLike : List ℕ → Type 0
+NameLike [] = Unit {0}
+NameLike (x ∷ name) = ((isName classOf x || eqb x 58) ≡ true) × NameLike name
+
+abbrev pub EachNameLike : List (List ℕ) → Type 0
+EachNameLike [] = Unit {0}
+EachNameLike (name ∷ names) = NameLike name × EachNameLike names
+
+-- n elements are open behind these bytes, where markup may begin: n end tags make a message of it
+pub record Open (n : ℕ) (w : List ℕ) : Type 0 where
+  pub markup : MarkupMayBegin w
+  pub names : List (List ℕ)
+  pub many : length names ≡ n
+  pub named : EachNameLike names
+  pub closed : Readable (w ++ endTags names)
+
+-- ---- start tags
+
+-- a name, of parts of any length, stands at the place
+abbrev pub NameStands : List ℕ → ℕ → Named → Type 0
+NameStands s at name = (most : ℕ) × (nameAt classOf most s at ≡ whole name)
+
+-- white space, and then an attribute with its value, stand from one place up to another
+pub record AttributeStands (s : List ℕ) (from to : ℕ) : Type 0 where
+  pub space : has (isSpace classOf) s from ≡ true
+  pub name : Named
+  pub named : NameStands s (blanks classOf s from) name
+  pub value : Quoted
+  pub valued : quotedAt classOf s (name .end) ≡ whole value
+  pub ends : value .to + 1 ≡ to
+
+-- so many of them stand there
+abbrev pub AttributesStand : List ℕ → ℕ → ℕ → ℕ → Type 0
+AttributesStand s zero from to = from ≡ to
+AttributesStand s (suc k) from to = (last : ℕ) × AttributesStand s k from last × AttributeStands s last to
+
+-- a start tag, which begins where markup may, with its name and k attributes stands before the place
+pub record TagStands (s : List ℕ) (k to : ℕ) : Type 0 where
+  pub at : ℕ
+  pub markup : MarkupMayBegin (take at s)
+  pub opens : has (is 60) s at ≡ true
+  pub name : Named
+  pub named : NameStands s (at + 1) name
+  pub attributes : AttributesStand s k (name .end) to
