@@ -14,4 +14,6 @@ pub mod Values
 pub mod Messages
 pub mod Readable
 pub mod Raised
+pub mod Seven
+pub mod Meanings
 mod Examples

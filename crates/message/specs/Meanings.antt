@@ -1,0 +1,76 @@
+-- Promise 6, meanings: which texts name a number, a status and a type, and what comments and elements in them do. (proofs/Meanings) Assumes nothing.
+use Prim.Native.Nat.{ℕ, suc, _+_, _*_, _<_, _≤_}
+use mathlib.Core.Path.{_≡_}
+use mathlib.Core.Bool.{true, false}
+use mathlib.Core.List.{List, [], _∷_, _++_}
+use lib.ListN.{length}
+use Rattle.message.specs.Class.{classOf, isText}
+use Rattle.message.specs.Reading.{is, byteAt, has}
+use Rattle.message.specs.Reading.Reading.{whole}
+use Rattle.message.specs.Characters.{Character}
+use Rattle.message.specs.Text.{specialAt}
+use Rattle.message.specs.Markup.{bangAt}
+use Rattle.message.specs.Elements.{Elements}
+use Rattle.message.specs.Elements.Elements.{none}
+use Rattle.message.specs.Values.{isBreak, lineEnd}
+use Rattle.message.specs.Messages.Found.{found}
+use Rattle.message.specs.Messages.{numberValue, statusValue, typeAdvice}
+use Rattle.message.specs.Words.{okStatus, redundantStatus, unreadableMessage}
+use Rattle.message.specs.declared.Number.the-variants.{Names}
+use Rattle.message.specs.declared.Status.the-variants as statuses
+use Rattle.message.specs.declared.Advice.the-variants as advices
+
+-- ---- texts, character by character
+
+module _ (s : List ℕ) where
+  -- what stands in an attribute's value from one place up to another: literal tab, line feed and carriage return are a space, CR LF one, and a
+  -- reference is the character that it names
+  pub data ValueSays (to : ℕ) : ℕ → List ℕ → Type 0 where
+    done : {at : ℕ} → to ≤ at → ValueSays to at []
+    space : {at : ℕ} {text : List ℕ} → at < to → has isBreak s at ≡ true → ValueSays to (lineEnd s at) text → ValueSays to at (32 ∷ text)
+    byte : {at : ℕ} {text : List ℕ} → at < to → has isBreak s at ≡ false → has (isText classOf) s at ≡ true → ValueSays to (at + 1) text → ValueSays to at (byteAt s at ∷ text)
+    special : {at : ℕ} {text : List ℕ} (c : Character) → at < to → has isBreak s at ≡ false → has (isText classOf) s at ≡ false → specialAt s at ≡ whole c
+        → ValueSays to (c .end) text → ValueSays to at (c .code ∷ text)
+
+  -- the same between tags: CR LF and a lone CR are a line feed, and comments mean nothing
+  pub data ContentSays (to : ℕ) : ℕ → List ℕ → Type 0 where
+    done : {at : ℕ} → to ≤ at → ContentSays to at []
+    comment : {at e : ℕ} {text : List ℕ} → at < to → has (is 60) s at ≡ true → bangAt classOf s at ≡ whole e → ContentSays to e text → ContentSays to at text
+    line : {at : ℕ} {text : List ℕ} → at < to → has (is 13) s at ≡ true → ContentSays to (lineEnd s at) text → ContentSays to at (10 ∷ text)
+    byte : {at : ℕ} {text : List ℕ} → at < to → has (is 60) s at ≡ false → has (is 13) s at ≡ false → has (isText classOf) s at ≡ true → ContentSays to (at + 1) text
+        → ContentSays to at (byteAt s at ∷ text)
+    special : {at : ℕ} {text : List ℕ} (c : Character) → at < to → has (is 60) s at ≡ false → has (is 13) s at ≡ false → has (isText classOf) s at ≡ false → specialAt s at ≡ whole c
+        → ContentSays to (c .end) text → ContentSays to at (c .code ∷ text)
+
+-- a number in decimal without leading zeros
+pub data Decimal : ℕ → List ℕ → Type 0 where
+  digit : (d : ℕ) → d < 10 → Decimal d ((48 + d) ∷ [])
+  further : {n : ℕ} {text : List ℕ} (d : ℕ) → 0 < n → d < 10 → Decimal n text → Decimal (n * 10 + d) (text ++ ((48 + d) ∷ []))
+
+-- ---- what they mean
+
+-- A value names n exactly if its text is n in decimal, below 2^32.
+pub record NamesExactly (s : List ℕ) (from to n : ℕ) : Type 0 where
+  pub names : numberValue classOf s (found from to) .number ≡ Names n → (text : List ℕ) × ValueSays s to from text × Decimal n text × (n < 4294967296)
+  pub named : (text : List ℕ) → ValueSays s to from text → Decimal n text → n < 4294967296 → numberValue classOf s (found from to) .number ≡ Names n
+
+abbrev pub NumbersMean : Type 0
+NumbersMean = (s : List ℕ) (from to n : ℕ) → NamesExactly s from to n
+
+-- A status is Ok, or RedundantSession, exactly if its text is that URI.
+pub record StatusExactly (s : List ℕ) (from to : ℕ) : Type 0 where
+  pub ok : statusValue classOf s (found from to) .status ≡ statuses.Ok → ValueSays s to from okStatus
+  pub is-ok : ValueSays s to from okStatus → statusValue classOf s (found from to) .status ≡ statuses.Ok
+  pub redundant : statusValue classOf s (found from to) .status ≡ statuses.RedundantSession → ValueSays s to from redundantStatus
+  pub is-redundant : ValueSays s to from redundantStatus → statusValue classOf s (found from to) .status ≡ statuses.RedundantSession
+
+abbrev pub StatusesMean : Type 0
+StatusesMean = (s : List ℕ) (from to : ℕ) → StatusExactly s from to
+
+-- A type is UnreadableMessage exactly if it holds no element and its text, without comments, is that URI.
+pub record TypeExactly (s : List ℕ) (inside : Elements) (from to : ℕ) : Type 0 where
+  pub unreadable : typeAdvice classOf s inside from to ≡ advices.UnreadableMessage → (inside ≡ none) × ContentSays s to from unreadableMessage
+  pub is-unreadable : inside ≡ none → ContentSays s to from unreadableMessage → typeAdvice classOf s inside from to ≡ advices.UnreadableMessage
+
+abbrev pub TypesMean : Type 0
+TypesMean = (s : List ℕ) (inside : Elements) (from to : ℕ) → TypeExactly s inside from to
