@@ -9,3 +9,6 @@ pub mod Loops
 pub mod MarkupLoop
 pub mod Trees
 pub mod Facts
+pub mod Automaton
+pub mod Dues
+pub mod Going

@@ -2,12 +2,12 @@
 -- 8, 10, 11 and 14 out of the way, and with 13 left aside. All that follows speaks of continuations of the bytes before a place. Assumes nothing.
 use Prim.Native.Nat.{ℕ, zero, suc, _+_}
 use mathlib.Core.Path.{_≡_}
-use mathlib.Core.Bool.{Bool, true, _||_}
+use mathlib.Core.Bool.{true, _||_}
 use mathlib.Core.List.{List, [], _∷_, _++_}
-use lib.ListN.{length, take}
+use lib.ListN.{length}
 use lib.Dec.{eqb}
-use Rattle.message.specs.Class.{classOf, isStart, isName, isSpace}
-use Rattle.message.specs.Reading.{is, has, blanks}
+use Rattle.message.specs.Class.{classOf, isName, isSpace}
+use Rattle.message.specs.Reading.{is, has, ends, blanks}
 use Rattle.message.specs.Reading.Reading.{whole}
 use Rattle.message.specs.Names.{Named, nameAt}
 use Rattle.message.specs.Limits.{Limits}
@@ -72,11 +72,23 @@ abbrev pub AttributesStand : List ℕ → ℕ → ℕ → ℕ → Type 0
 AttributesStand s zero from to = from ≡ to
 AttributesStand s (suc k) from to = (last : ℕ) × AttributesStand s k from last × AttributeStands s last to
 
--- a start tag, which begins where markup may, with its name and k attributes stands before the place
-pub record TagStands (s : List ℕ) (k to : ℕ) : Type 0 where
-  pub at : ℕ
-  pub markup : MarkupMayBegin (take at s)
+-- a start tag from its `<` on, with its name and k attributes, stands before the place
+pub record TagStands (s : List ℕ) (at k to : ℕ) : Type 0 where
   pub opens : has (is 60) s at ≡ true
   pub name : Named
   pub named : NameStands s (at + 1) name
   pub attributes : AttributesStand s k (name .end) to
+
+-- ---- parts of names
+
+-- the first part of a name begins at the place p, in markup that begins at another: behind the `<` of a start tag, the `</` of an end tag, or the white space
+-- before an attribute
+pub data FirstPart (s : List ℕ) (at p : ℕ) : Type 0 where
+  of-start : has (is 60) s at ≡ true → p ≡ at + 1 → FirstPart s at p
+  of-end : has (is 60) s at ≡ true → has (is 47) s (at + 1) ≡ true → p ≡ at + 2 → FirstPart s at p
+  of-attribute : (k to : ℕ) → TagStands s at k to → has (isSpace classOf) s to ≡ true → p ≡ blanks classOf s to → FirstPart s at p
+
+-- the first or the second, which begins behind a colon
+pub data PartStands (s : List ℕ) (at p : ℕ) : Type 0 where
+  first : FirstPart s at p → PartStands s at p
+  second : (q : ℕ) → FirstPart s at q → has (is 58) s (ends (isName classOf) s q) ≡ true → p ≡ ends (isName classOf) s q + 1 → PartStands s at p
