@@ -12,3 +12,5 @@ pub mod Facts
 pub mod Automaton
 pub mod Dues
 pub mod Going
+pub mod Acting
+pub mod GoingNames
