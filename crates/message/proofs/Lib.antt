@@ -9,3 +9,6 @@ pub mod Loops
 pub mod MarkupLoop
 pub mod Trees
 pub mod Facts
+pub mod Kept
+pub mod Again
+pub mod Raising
