@@ -2,20 +2,18 @@
 -- of an element that was read whole. Assumes nothing.
 use Prim.Native.Nat.{ℕ, zero, suc, _+_, _-_}
 use mathlib.Core.Path.{_≡_, refl, sym, _∙_, ap, subst}
-use mathlib.Core.Logic.{_⊎_, inl, inr}
 use mathlib.Core.Bool.{Bool, true, false, cond, _||_}
 use mathlib.Core.List.{List, [], _∷_}
 use native.Mathlib.Omega.{arith}
 use lib.ListN.{length}
 use lib.Dec.{ltb, eqb}
 use borrow.Author.Tests.{eqb-true}
-use Rattle.laws.specs.Bytes.{sameBytes}
 use Rattle.message.specs.Class.{classOf, isStart, isSpace}
 use Rattle.message.specs.Reading.{Reading, _>>=_, is, has, one, byteAt, blanks}
 use Rattle.message.specs.Reading.Reading.{whole, refused}
 use Rattle.message.specs.Names.{Named, partAt, nameAt}
 use Rattle.message.specs.Limits.{Limits}
-use Rattle.message.specs.Elements.{part, Tag, Elements, Element, Start, isKnown, endsTag, startEndAt, quotedAt, freshAt, attributesAt, withNameAt, startAt, restAt, tooDeepAt, elementAt}
+use Rattle.message.specs.Elements.{part, Elements, Element, Start, isKnown, endsTag, startEndAt, quotedAt, freshAt, attributesAt, withNameAt, startAt, restAt, elementAt}
 use Rattle.message.specs.Elements.Elements.{none, more}
 use Rattle.message.specs.Messages.{attributeCalled, attributeOf, foundIn, called, onlyChild, messageOfKind}
 use Rattle.message.specs.Words as words
@@ -25,12 +23,12 @@ use Rattle.message.specs.Raised.{AtMost}
 use Rattle.message.proofs.Laws.{one-has, one-no, has-in, has-lt, has-byte}
 use Rattle.message.proofs.Trees.{whole-same}
 use Rattle.message.proofs.Facts.{then-whole, Reads, Stands, none-deep, element-stands}
-use Rattle.message.proofs.Kept.{Kept, kept-name}
+use Rattle.message.proofs.Kept.{kept-whole, kept-name}
 
--- what was read whole is read with raised limits too
-pub kept-whole : {A : Type 0} (l l′ : Limits) (r r′ : Reading A) (x : A) → Kept l l′ r r′ → r ≡ whole x → r′ ≡ whole x
-kept-whole l l′ r r′ x (inl e) q = sym e ∙ q
-kept-whole l l′ r r′ x (inr w) q = let z : whole x ≡ refused (w .0) (w .1) = sym q ∙ w .3 in let y : _≡_ {A = ℕ} 0 1 = cc in absurd (omega arith)
+-- two readings that go on alike after what was read
+then-same : {A B : Type 0} (next next′ : A → Reading B) (a : Reading A) → ((x : A) → a ≡ whole x → next x ≡ next′ x) → (a >>= next) ≡ (a >>= next′)
+then-same next next′ (whole x) g = g x refl
+then-same next next′ (refused n p) g = refl
 
 -- no name begins where a tag ends
 ends-no-start : (x : ℕ) → endsTag x ≡ true → isStart classOf x ≡ false
@@ -49,7 +47,8 @@ no-name s most at h =
 
 module _ (class : ℕ → ℕ) (s : List ℕ) (l : Limits) where
   -- a fresh name is a name
-  fresh-name : (seen : List (List ℕ)) (at p e : ℕ) → freshAt class s l seen at p ≡ whole e → (n : Named) × (nameAt class (l .part) s p ≡ whole n) × (e ≡ n .end)
+  fresh-name : (seen : List (List ℕ)) (at p e : ℕ) → freshAt class s l seen at p ≡ whole e
+      → (n : Named) × (nameAt class (l .part) s p ≡ whole n) × (e ≡ n .end)
   unfolding freshAt
   fresh-name seen at p e q =
       let x = then-whole _ (one (isSpace class) s at) e q in
@@ -62,30 +61,36 @@ module _ (class : ℕ → ℕ) (s : List ℕ) (l : Limits) where
       known true end h = let y : _≡_ {A = ℕ} 0 1 = cc in absurd (omega arith)
       known false end h = sym (whole-same h)
 
-  start-attributes : (at : ℕ) (st : Start) → startAt class s l at ≡ whole st → (n : Named) × (nameAt class (l .part) s (at + 1) ≡ whole n) × (stop : ℕ) × (attributesAt class s l (length s) [] (n .end) ≡ whole stop)
+  -- attributes were read whole from the place on
+  abbrev Ended : ℕ → Type 0
+  Ended at = (stop : ℕ) × (attributesAt class s l (length s) [] at ≡ whole stop)
+
+  start-attributes : (at : ℕ) (st : Start) → startAt class s l at ≡ whole st → (n : Named) × (nameAt class (l .part) s (at + 1) ≡ whole n) × Ended (n .end)
   unfolding startAt withNameAt
   start-attributes at st q =
       let x = then-whole _ (one (is 60) s at) st q in
       let y = then-whole _ (nameAt class (l .part) s (x .0)) st (x .2) in
       let z = then-whole (startEndAt s (x .0) (y .0)) (attributesAt class s l (length s) [] (y .0 .end)) st (y .2) in
-      (y .0, ap (nameAt class (l .part) s) (sym (one-has (is 60) s at (x .0) (x .1) .1)) ∙ y .1, z .0, z .1)
+      (y .0, ap (nameAt class (l .part) s) (sym (one-has (is 60) s at (x .0) (x .1) .1)) ∙ y .1, (z .0, z .1))
 
   -- the attributes of an element were read behind its name
-  element-attributes : (depth at : ℕ) (e : Element) → elementAt class s l depth at ≡ whole e → (stop : ℕ) × (attributesAt class s l (length s) [] (e .tag .name .end) ≡ whole stop)
+  element-attributes : (depth at : ℕ) (e : Element) → elementAt class s l depth at ≡ whole e → Ended (e .tag .name .end)
   unfolding elementAt
   element-attributes zero at e q = absurd (none-deep class s l at e q)
   element-attributes (suc depth) at e q =
       let st = then-whole (restAt class s l (elementAt class s l depth)) (startAt class s l at) e q in
       let x = start-attributes at (st .0) (st .1) in
-      same (element-stands class s l depth at e q) (x .0) (x .1) (x .2) (x .3)
+      same (element-stands class s l depth at e q) (x .0) (x .1) (x .2)
     where
-      same : Stands class s l (elementAt class s l depth) at e → (n : Named) → nameAt class (l .part) s (at + 1) ≡ whole n → (stop : ℕ) → attributesAt class s l (length s) [] (n .end) ≡ whole stop → (stop : ℕ) × (attributesAt class s l (length s) [] (e .tag .name .end) ≡ whole stop)
-      same stands n named stop h =
-          let again : e .tag .name ≡ n = whole-same (sym (stands .named) ∙ (ap (nameAt class (l .part) s) (stands .begins) ∙ named)) in
-          (stop, ap (λ (m : Named). attributesAt class s l (length s) [] (m .end)) again ∙ h)
+      same : Stands class s l (elementAt class s l depth) at e → (n : Named) → nameAt class (l .part) s (at + 1) ≡ whole n → Ended (n .end) → Ended (e .tag .name .end)
+      same stands n named ended =
+          let again : n ≡ e .tag .name = whole-same (sym named ∙ (ap (nameAt class (l .part) s) (sym (stands .begins)) ∙ stands .named)) in
+          subst (λ (m : Named). Ended (m .end)) again ended
 
 module _ (s : List ℕ) (l l′ : Limits) (up : AtMost l l′) where
-  attributes-again : (w : List ℕ) (fuel : ℕ) (seen : List (List ℕ)) (at stop : ℕ) → attributesAt classOf s l fuel seen at ≡ whole stop → attributeCalled classOf l s fuel w at ≡ attributeCalled classOf l′ s fuel w at
+  -- Each name was whole with l, so it is with l′; behind the last attribute there is none.
+  attributes-again : (w : List ℕ) (fuel : ℕ) (seen : List (List ℕ)) (at stop : ℕ) → attributesAt classOf s l fuel seen at ≡ whole stop
+      → attributeCalled classOf l s fuel w at ≡ attributeCalled classOf l′ s fuel w at
   unfolding attributesAt attributeCalled
   attributes-again w zero seen at stop q = refl
   attributes-again w (suc fuel) seen at stop q = go (attributes-again w fuel) (has endsTag s p) refl q
@@ -96,7 +101,8 @@ module _ (s : List ℕ) (l l′ : Limits) (up : AtMost l l′) where
       another : ℕ → Reading ℕ
       another e = quotedAt classOf s e >>= (λ value. attributesAt classOf s l fuel (part s p e ∷ seen) (value .to + 1))
 
-      go : ((seen : List (List ℕ)) (at stop : ℕ) → attributesAt classOf s l fuel seen at ≡ whole stop → attributeCalled classOf l s fuel w at ≡ attributeCalled classOf l′ s fuel w at)
+      go : ((seen : List (List ℕ)) (at stop : ℕ) → attributesAt classOf s l fuel seen at ≡ whole stop
+          → attributeCalled classOf l s fuel w at ≡ attributeCalled classOf l′ s fuel w at)
           → (t : Bool) → has endsTag s p ≡ t → cond t (whole p) (freshAt classOf s l seen at p >>= another) ≡ whole stop
           → attributeCalled classOf l s (suc fuel) w at ≡ attributeCalled classOf l′ s (suc fuel) w at
       go further true e h = rw (no-name s (l .part) p e, no-name s (l′ .part) p e)
@@ -104,18 +110,22 @@ module _ (s : List ℕ) (l l′ : Limits) (up : AtMost l l′) where
           let x = then-whole another (freshAt classOf s l seen at p) stop h in
           let v = then-whole _ (quotedAt classOf s (x .0)) stop (x .2) in
           let n = fresh-name classOf s l seen at p (x .0) (x .1) in
-          let n′ : nameAt classOf (l′ .part) s p ≡ whole (n .0) = kept-whole l l′ _ _ (n .0) (kept-name classOf s l l′ up p) (n .1) in
+          let n′ : nameAt classOf (l′ .part) s p ≡ whole (n .0) = kept-whole l l′ _ _ (n .0) (kept-name l l′ classOf s up p) (n .1) in
           let v′ : quotedAt classOf s (n .0 .end) ≡ whole (v .0) = ap (quotedAt classOf s) (sym (n .2)) ∙ v .1 in
           rw (n .1, n′, v′, further (part s p (x .0) ∷ seen) (v .0 .to + 1) stop (v .2))
 
   -- ---- what a message says, from elements that were read whole with l
 
-  found-again : (w : List ℕ) (depth at : ℕ) (e : Element) → elementAt classOf s l depth at ≡ whole e → attributeOf classOf l s w (e .tag) ≡ attributeOf classOf l′ s w (e .tag)
+  abbrev Alike : List ℕ → Element → Type 0
+  Alike w e = attributeOf classOf l s w (e .tag) ≡ attributeOf classOf l′ s w (e .tag)
+
+  found-again : (w : List ℕ) (depth at : ℕ) (e : Element) → elementAt classOf s l depth at ≡ whole e → Alike w e
   found-again w depth at e q =
       let x = element-attributes classOf s l depth at e q in
       ap foundIn (attributes-again w (length s) [] (e .tag .name .end) (x .0) (x .1))
 
-  child-again : (w v : List ℕ) (depth : ℕ) (inside : Elements) → Reads classOf s l (elementAt classOf s l depth) inside → (e : Element) → onlyChild s v inside ≡ whole e → attributeOf classOf l s w (e .tag) ≡ attributeOf classOf l′ s w (e .tag)
+  child-again : (w v : List ℕ) (depth : ℕ) (inside : Elements) → Reads classOf s l (elementAt classOf s l depth) inside
+      → (e : Element) → onlyChild s v inside ≡ whole e → Alike w e
   child-again w v depth none reads e q = let z : _≡_ {A = ℕ} 0 1 = cc in absurd (omega arith)
   child-again w v depth (more t inner (more t′ inner′ others)) reads e q = let z : _≡_ {A = ℕ} 0 1 = cc in absurd (omega arith)
   child-again w v depth (more t inner none) reads e q = go (called s v t) q
@@ -123,22 +133,19 @@ module _ (s : List ℕ) (l l′ : Limits) (up : AtMost l l′) where
       only : Element
       only = record { tag = t; inside = inner }
 
-      go : (t : Bool) → cond t (whole only) (refused 13 0) ≡ whole e → attributeOf classOf l s w (e .tag) ≡ attributeOf classOf l′ s w (e .tag)
+      go : (t : Bool) → cond t (whole only) (refused 13 0) ≡ whole e → Alike w e
       go true h = found-again w depth (t .begin - 1) e (reads .0 ∙ h)
       go false h = let z : _≡_ {A = ℕ} 0 1 = cc in absurd (omega arith)
 
-  then-same : {A B : Type 0} (next next′ : A → Reading B) (a : Reading A) → ((x : A) → a ≡ whole x → next x ≡ next′ x) → (a >>= next) ≡ (a >>= next′)
-  then-same next next′ (whole x) g = g x refl
-  then-same next next′ (refused n p) g = refl
-
-  pub kind-again : (depth at : ℕ) (root : Element) → elementAt classOf s l depth at ≡ whole root → (k : Kind) → messageOfKind classOf l s root k ≡ messageOfKind classOf l′ s root k
+  pub kind-again : (depth at : ℕ) (root : Element) → elementAt classOf s l depth at ≡ whole root → (k : Kind)
+      → messageOfKind classOf l s root k ≡ messageOfKind classOf l′ s root k
   kind-again zero at root q k = absurd (none-deep classOf s l at root q)
   kind-again (suc depth) at root q k = go k
     where
-      own : (w : List ℕ) → attributeOf classOf l s w (root .tag) ≡ attributeOf classOf l′ s w (root .tag)
+      own : (w : List ℕ) → Alike w root
       own w = found-again w (suc depth) at root q
 
-      inner : (w v : List ℕ) (child : Element) → onlyChild s v (root .inside) ≡ whole child → attributeOf classOf l s w (child .tag) ≡ attributeOf classOf l′ s w (child .tag)
+      inner : (w v : List ℕ) (child : Element) → onlyChild s v (root .inside) ≡ whole child → Alike w child
       inner w v child h = child-again w v depth (root .inside) (element-stands classOf s l depth at root q .inner) child h
 
       go : (k : Kind) → messageOfKind classOf l s root k ≡ messageOfKind classOf l′ s root k
