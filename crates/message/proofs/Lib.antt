@@ -1,5 +1,6 @@
 -- `Laws` and `Digits` are about single readings, `Parts` about parts of the message; `ClassTable` computes the table. `Progress`, `MarkupLoop` and `Trees` show that what is
 -- read whole ends past where it began, `Loops` what a loop over a reader keeps, and `Facts` that each element is what is read again at its place.
+-- `Kept` and `Again` say what raised limits change, `ByForm` and `Unlimited` what is refused with limits out of the way, and `Raising` proves specs/Raised.
 pub mod Laws
 pub mod Digits
 pub mod Parts
@@ -14,3 +15,8 @@ pub mod Dues
 pub mod Going
 pub mod Acting
 pub mod GoingNames
+pub mod Kept
+pub mod Again
+pub mod ByForm
+pub mod Unlimited
+pub mod Raising

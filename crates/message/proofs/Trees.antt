@@ -90,7 +90,7 @@ module _ (class : ℕ → ℕ) (s : List ℕ) (k : ℕ) where
       cond-cases (Behind place) (has (is quote) s stop) (λ t. (on, omega (arith, has-lt (is quote) s stop t)))
       (λ t. past-then place place (length s) k _ (beyondPlainInAt class s stop) (past-beyond-plain-in s k class stop (omega arith)) (λ e p q. past-value fuel quote e p))
 
-  past-quoted : (at : ℕ) → k < at → Behind (λ v. v .to) (quotedAt class s at)
+  pub past-quoted : (at : ℕ) → k < at → Behind (λ v. v .to) (quotedAt class s at)
   unfolding quotedAt
   past-quoted at h =
       past-then place (λ v. v .to) (length s) k _ (openedAt class s at) (past-opened at h) (λ begin p q.
@@ -130,7 +130,7 @@ module _ (class : ℕ → ℕ) (s : List ℕ) (k : ℕ) where
       (λ t. past-then place (λ st. st .from) (length s) k _ (one (is 62) s at) (past-one s k (is 62) at (omega arith)) (λ i p q. (p, q)))
 
   module _ (l : Limits) where
-    past-fresh : (seen : List (List ℕ)) (at p : ℕ) → k < p → Behind place (freshAt class s l seen at p)
+    pub past-fresh : (seen : List (List ℕ)) (at p : ℕ) → k < p → Behind place (freshAt class s l seen at p)
     unfolding freshAt
     past-fresh seen at p h =
         one-cases (Behind place) (isSpace class) s at _ (λ t.
@@ -158,7 +158,7 @@ module _ (class : ℕ → ℕ) (s : List ℕ) (k : ℕ) where
     past-with-name b n h =
         past-then place (λ st. st .from) (length s) k _ (attributesAt class s l (length s) [] (n .end)) (past-attributes (length s) [] (n .end) h) (λ stop p q. past-start-end b n stop p)
 
-    past-start : (at : ℕ) → k ≤ at → Behind (λ st. st .from) (startAt class s l at)
+    pub past-start : (at : ℕ) → k ≤ at → Behind (λ st. st .from) (startAt class s l at)
     unfolding startAt
     past-start at h =
         past-then place (λ st. st .from) (length s) k _ (one (is 60) s at) (past-one s k (is 60) at h) (λ b p q.
