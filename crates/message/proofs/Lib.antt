@@ -1,5 +1,6 @@
 -- `Laws` and `Digits` are about single readings, `Parts` about parts of the message; `ClassTable` computes the table. `Progress`, `MarkupLoop` and `Trees` show that what is
--- read whole ends past where it began, `Loops` what a loop over a reader keeps, and `Facts` that each element is what is read again at its place.
+-- read whole ends past where it began, `Loops` what a loop over a reader keeps, and `Facts` that each element is what is read again at its place. `Meanings` proves promise 6,
+-- with `Letters` about texts and `Decimals` about numbers in them.
 pub mod Laws
 pub mod Digits
 pub mod Parts
@@ -9,3 +10,6 @@ pub mod Loops
 pub mod MarkupLoop
 pub mod Trees
 pub mod Facts
+pub mod Letters
+pub mod Decimals
+pub mod Meanings
