@@ -1,6 +1,8 @@
 -- `Laws` and `Digits` are about single readings, `Parts` about parts of the message; `ClassTable` computes the table. `Progress`, `MarkupLoop` and `Trees` show that what is
 -- read whole ends past where it began, `Loops` what a loop over a reader keeps, and `Facts` that each element is what is read again at its place.
 -- `Kept` and `Again` say what raised limits change, `ByForm` and `Unlimited` what is refused with limits out of the way, and `Raising` proves specs/Raised.
+-- read whole ends past where it began, `Loops` what a loop over a reader keeps, and `Facts` that each element is what is read again at its place. `Meanings` proves promise 6,
+-- with `Letters` about texts and `Decimals` about numbers in them.
 pub mod Laws
 pub mod Digits
 pub mod Parts
@@ -20,3 +22,6 @@ pub mod Again
 pub mod ByForm
 pub mod Unlimited
 pub mod Raising
+pub mod Letters
+pub mod Decimals
+pub mod Meanings

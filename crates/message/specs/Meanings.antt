@@ -1,9 +1,10 @@
 -- Promise 6, meanings: which texts name a number, a status and a type, and what comments and elements in them do. (proofs/Meanings) Assumes nothing.
-use Prim.Native.Nat.{ℕ, suc, _+_, _*_, _<_, _≤_}
+use Prim.Native.Nat.{ℕ, _+_, _*_, _<_, _≤_}
+use Prim.Native.Char.{code}
+use Prim.Native.String.{String, [] as nothing, _∷_ as _then_}
 use mathlib.Core.Path.{_≡_}
 use mathlib.Core.Bool.{true, false}
 use mathlib.Core.List.{List, [], _∷_, _++_}
-use lib.ListN.{length}
 use Rattle.message.specs.Class.{classOf, isText}
 use Rattle.message.specs.Reading.{is, byteAt, has}
 use Rattle.message.specs.Reading.Reading.{whole}
@@ -74,3 +75,16 @@ pub record TypeExactly (s : List ℕ) (inside : Elements) (from to : ℕ) : Type
 
 abbrev pub TypesMean : Type 0
 TypesMean = (s : List ℕ) (inside : Elements) (from to : ℕ) → TypeExactly s inside from to
+
+-- ---- the URIs as document 01 writes them
+
+-- the numbers of a text's characters
+abbrev pub codes : String → List ℕ
+codes nothing = []
+codes (c then others) = code c ∷ codes others
+
+abbrev pub UrisAre : Type 0
+UrisAre =
+    (okStatus ≡ codes "urn:nena-org:dtc:aqstcp:status:Ok")
+    × (redundantStatus ≡ codes "urn:nena-org:dtc:aqstcp:status:RedundantSession")
+    × (unreadableMessage ≡ codes "urn:nena-org:dtc:aqs:notif:advisory:appl-x:UnreadableMessage")
