@@ -113,6 +113,23 @@ pub data Next : Type 0 where
 
 -- ---- a step
 
+-- bytes that are no white space
+pub solid-equals : isSpace classOf 61 ≡ false
+unfolding classOf
+solid-equals = refl
+
+pub solid-greater : isSpace classOf 62 ≡ false
+unfolding classOf
+solid-greater = refl
+
+pub solid-question : isSpace classOf 63 ≡ false
+unfolding classOf
+solid-question = refl
+
+pub solid-v : isSpace classOf 118 ≡ false
+unfolding classOf
+solid-v = refl
+
 abbrev pub only : Bool → State → Next
 only t st = cond t (goes st) dead
 
@@ -134,8 +151,7 @@ after (v ∷ o) = ground (inside 0 v o)
 
 -- what is left of an end tag's name, and the `>`
 abbrev pub closing : List ℕ → Bool → List (List ℕ) → State
-unfolding classOf
-closing [] fresh o = blanks (exact 62) refl [] (after o)
+closing [] fresh o = blanks (exact 62) solid-greater [] (after o)
 closing (y ∷ w) fresh o = close y w fresh o
 
 abbrev pub comment : Ground → State
@@ -143,19 +159,16 @@ comment g = expect (exact 45) (exact 45 ∷ []) (note 0 (ground (rest g)))
 
 -- `=` and the quotation mark
 abbrev pub equals : State → State
-unfolding classOf
-equals k = blanks (exact 61) refl [] k
+equals k = blanks (exact 61) solid-equals [] k
 
 abbrev pub versionWord : State
-unfolding classOf
-versionWord = blanks (exact 118) refl (exactly (101 ∷ 114 ∷ 115 ∷ 105 ∷ 111 ∷ 110 ∷ [])) (equals versionQuote)
+versionWord = blanks (exact 118) solid-v (exactly (101 ∷ 114 ∷ 115 ∷ 105 ∷ 111 ∷ 110 ∷ [])) (equals versionQuote)
 
 abbrev pub encodingWord : State
 encodingWord = expect (exact 110) (exactly (99 ∷ 111 ∷ 100 ∷ 105 ∷ 110 ∷ 103 ∷ [])) (equals encodingQuote)
 
 abbrev pub declaredEnd : State
-unfolding classOf
-declaredEnd = blanks (exact 63) refl (exact 62 ∷ []) (ground before)
+declaredEnd = blanks (exact 63) solid-question (exact 62 ∷ []) (ground before)
 
 -- a byte that begins a character of more than one, or a reference
 abbrev pub leads : State → ℕ → Next
@@ -223,11 +236,10 @@ stepInTag spaced n seen o x =
     (cond (is 62 x) (goes (ground (inside 0 n o))) (only (spaced && isStart classOf x) (attribute false (x ∷ []) n seen o))))
 
 abbrev pub stepAttribute : Bool → List ℕ → List ℕ → List (List ℕ) → List (List ℕ) → ℕ → Next
-unfolding classOf
 stepAttribute t a n seen o x =
     cond (isName classOf x) (goes (attribute t (a ++ (x ∷ [])) n seen o))
     (cond (is 58 x && not t) (goes (attributeColon (a ++ (58 ∷ [])) n seen o))
-    (cond (isKnown a seen) dead (stepBlanks (exact 61) refl [] (quote n (a ∷ seen) o) x)))
+    (cond (isKnown a seen) dead (stepBlanks (exact 61) solid-equals [] (quote n (a ∷ seen) o) x)))
 
 abbrev pub step : State → ℕ → Next
 step (ground g) x = cond (is 60 x) (goes (opened g)) (betweenTags g x)

@@ -33,6 +33,10 @@ part-one s b inside = part-more s b b (omega arith) inside ∙ rw (slice-empty b
 pub start-name : (x : ℕ) → isStart classOf x ≡ true → isName classOf x ≡ true
 start-name x h = le-leb 4 (classOf x) (omega (arith, eqb-true (classOf x) 5 h))
 
+pub colon-no-name : isName classOf 58 ≡ false
+unfolding classOf
+colon-no-name = refl
+
 module _ (l : Limits) (s : List ℕ) where
   -- the states in which a name is read: in its first part or its second, with what was read of it, and behind the colon
   pub record Naming : Type 0 where

@@ -17,6 +17,7 @@ pub mod Dues
 pub mod Going
 pub mod Acting
 pub mod GoingNames
+pub mod GoingAttributes
 pub mod Kept
 pub mod Again
 pub mod ByForm
