@@ -13,3 +13,4 @@ pub mod Automaton
 pub mod Dues
 pub mod Going
 pub mod GoingCharacters
+pub mod GoingText
