@@ -58,15 +58,18 @@ module _ (l : Limits) (s : List ℕ) where
   unfolding lastTwoAt
   going-last-two n k i here =
       let last = expect laterTest [] k in
-      outcome-then l s (λ j. At l s last j × (j ≡ i + 1)) (Behind k) _ (one later s i) (going-one last later i (here, refl, refl, λ inside. refl)) (λ j q h.
-      outcome-then l s (λ e. At l s k e × (e ≡ j + 1)) (Behind k) _ (one later s j) (going-one k later j (h .0, refl, refl, λ inside. refl)) (λ e r g. g .0))
+      outcome-then l s (λ j. At l s last j × (j ≡ i + 1)) (Behind k) _ (one later s i)
+      (going-one last later i (here, refl, refl, λ inside. refl)) (λ j q h.
+      outcome-then l s (λ e. At l s k e × (e ≡ j + 1)) (Behind k) _ (one later s j)
+      (going-one k later j (h .0, refl, refl, λ inside. refl)) (λ e r g. g .0))
 
   going-four : (k : State) {st : State} (i : ℕ) → Steps st i (only (between 240 244 (byteAt s i)) (expect (secondFour (byteAt s i)) (laterTest ∷ laterTest ∷ []) k)) → Outcome l s (Behind k) (fourAt s i)
   unfolding fourAt
   going-four k i here =
       let three = expect (secondFour (byteAt s i)) (laterTest ∷ laterTest ∷ []) k in
       let two = expect laterTest (laterTest ∷ []) k in
-      outcome-then l s (λ j. At l s three j × (j ≡ i + 1)) (Behind k) _ (one (between 240 244) s i) (going-one three (between 240 244) i here) (λ j q h.
+      outcome-then l s (λ j. At l s three j × (j ≡ i + 1)) (Behind k) _ (one (between 240 244) s i)
+      (going-one three (between 240 244) i here) (λ j q h.
       outcome-then l s (λ e. At l s two e × (e ≡ j + 1)) (Behind k) _ (one (secondOfFour (byteAt s i)) s j)
       (going-one two (secondOfFour (byteAt s i)) j (h .0, refl, refl, λ inside. refl)) (λ e r g.
       going-last-two (joined (byteAt s i - 240) (byteAt s j)) k e (g .0)))
@@ -75,11 +78,15 @@ module _ (l : Limits) (s : List ℕ) where
   unfolding longAt
   going-long k i here goes-on free steps =
       cond-cases (Outcome l s (Behind k)) (has (between 194 223) s i)
-      (λ t. going-two k i (at-has l s (between 194 223) i here t free (steps (has-lt (between 194 223) s i t) ∙ rw (has-byte (between 194 223) s i t)))) (λ t.
+      (λ t.
+      let inside = has-lt (between 194 223) s i t in
+      going-two k i (at-has l s (between 194 223) i here t free (steps inside ∙ rw (has-byte (between 194 223) s i t)))) (λ t.
       cond-cases (Outcome l s (Behind k)) (has (between 224 239) s i)
       (λ u.
       let inside = has-lt (between 224 239) s i u in
-      going-three k i (at-has l s (between 224 239) i here u free (steps inside ∙ rw (byte-fails (between 194 223) s i t inside, has-byte (between 224 239) s i u))))
+      going-three k i
+      (at-has l s (between 224 239) i here u free
+      (steps inside ∙ rw (byte-fails (between 194 223) s i t inside, has-byte (between 224 239) s i u))))
       (λ u.
       going-four k i
       (here, goes-on, free, λ inside. steps inside ∙ rw (byte-fails (between 194 223) s i t inside, byte-fails (between 224 239) s i u inside))))
@@ -160,14 +167,20 @@ module _ (l : Limits) (s : List ℕ) where
   going-predefined : (k : State) (i : ℕ) → At l s (ampersand k) i → has (is 35) s i ≡ false → Outcome l s (Behind k) (predefinedAt s i)
   unfolding predefinedAt
   going-predefined k i here sharp =
+      let not-sharp = byte-fails (is 35) s i sharp in
       cond-cases (Outcome l s (Behind k)) (has (is 108) s i)
-      (λ t. going-stands k 108 (116 ∷ 59 ∷ []) 60 i (here, refl, refl, λ inside. rw (byte-fails (is 35) s i sharp inside, has-byte (is 108) s i t))) (λ t.
+      (λ t. going-stands k 108 (116 ∷ 59 ∷ []) 60 i (here, refl, refl, λ inside. rw (not-sharp inside, has-byte (is 108) s i t))) (λ t.
+      let not-l = byte-fails (is 108) s i t in
       cond-cases (Outcome l s (Behind k)) (has (is 103) s i)
-      (λ u. going-stands k 103 (116 ∷ 59 ∷ []) 62 i (here, refl, refl, λ inside. rw (byte-fails (is 35) s i sharp inside, byte-fails (is 108) s i t inside, has-byte (is 103) s i u))) (λ u.
+      (λ u. going-stands k 103 (116 ∷ 59 ∷ []) 62 i (here, refl, refl, λ inside. rw (not-sharp inside, not-l inside, has-byte (is 103) s i u))) (λ u.
+      let not-g = byte-fails (is 103) s i u in
       cond-cases (Outcome l s (Behind k)) (has (is 113) s i)
-      (λ v. going-stands k 113 (117 ∷ 111 ∷ 116 ∷ 59 ∷ []) 34 i (here, refl, refl, λ inside. rw (byte-fails (is 35) s i sharp inside, byte-fails (is 108) s i t inside, byte-fails (is 103) s i u inside, has-byte (is 113) s i v))) (λ v.
+      (λ v.
+      going-stands k 113 (117 ∷ 111 ∷ 116 ∷ 59 ∷ []) 34 i
+      (here, refl, refl, λ inside. rw (not-sharp inside, not-l inside, not-g inside, has-byte (is 113) s i v))) (λ v.
+      let not-q = byte-fails (is 113) s i v in
       outcome-then l s (λ j. At l s (ampersandA k) j × (j ≡ i + 1)) (Behind k) _ (one (is 97) s i)
-      (going-one (ampersandA k) (is 97) i (here, refl, refl, λ inside. rw (byte-fails (is 35) s i sharp inside, byte-fails (is 108) s i t inside, byte-fails (is 103) s i u inside, byte-fails (is 113) s i v inside))) (λ j q h.
+      (going-one (ampersandA k) (is 97) i (here, refl, refl, λ inside. rw (not-sharp inside, not-l inside, not-g inside, not-q inside))) (λ j q h.
       cond-cases (Outcome l s (Behind k)) (has (is 109) s j)
       (λ w. going-stands k 109 (112 ∷ 59 ∷ []) 38 j (h .0, refl, refl, λ inside. rw (has-byte (is 109) s j w)))
       (λ w. going-stands k 112 (111 ∷ 115 ∷ 59 ∷ []) 39 j (h .0, refl, refl, λ inside. rw (byte-fails (is 109) s j w inside)))))))
@@ -181,8 +194,8 @@ module _ (l : Limits) (s : List ℕ) where
       let behind : At l s (hash k) (i + 1) = at-has l s (is 35) i here t refl (rw (has-byte (is 35) s i t)) in
       cond-cases (Outcome l s (Behind k)) (has (is 120) s (i + 1))
       (λ u.
-      let from : At l s (firstDigit true k) (i + 2) = subst (At l s (firstDigit true k)) (omega arith) (at-has l s (is 120) (i + 1) behind u refl (rw (has-byte (is 120) s (i + 1) u))) in
-      going-numbered true k (i + 2) (from, refl, refl, λ inside. refl))
+      let from : At l s (firstDigit true k) (i + 1 + 1) = at-has l s (is 120) (i + 1) behind u refl (rw (has-byte (is 120) s (i + 1) u)) in
+      going-numbered true k (i + 2) (subst (At l s (firstDigit true k)) (omega arith) from, refl, refl, λ inside. refl))
       (λ u. going-numbered false k (i + 1) (behind, refl, refl, λ inside. rw (byte-fails (is 120) s (i + 1) u inside)))) (λ t.
       going-predefined k i here t)
 
@@ -190,5 +203,7 @@ module _ (l : Limits) (s : List ℕ) where
   unfolding specialAt referenceAt
   going-special k i here goes-on free steps =
       cond-cases (Outcome l s (Behind k)) (has (is 38) s i)
-      (λ t. rw (one-yes (is 38) s i t) (going-referenced k (i + 1) (at-has l s (is 38) i here t free (steps (has-lt (is 38) s i t) ∙ rw (has-byte (is 38) s i t)))))
+      (λ t.
+      rw (one-yes (is 38) s i t)
+      (going-referenced k (i + 1) (at-has l s (is 38) i here t free (steps (has-lt (is 38) s i t) ∙ rw (has-byte (is 38) s i t)))))
       (λ t. going-long k i here goes-on free (λ inside. steps inside ∙ rw (byte-fails (is 38) s i t inside)))
