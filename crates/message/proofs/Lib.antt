@@ -26,3 +26,5 @@ pub mod Raising
 pub mod Letters
 pub mod Decimals
 pub mod Meanings
+pub mod GoingCharacters
+pub mod GoingText
