@@ -13,3 +13,5 @@ pub mod Automaton
 pub mod Dues
 pub mod Going
 pub mod Sound
+pub mod Inverse
+pub mod Alive

@@ -65,7 +65,7 @@ SaneNext (goes st) = Sane st
 -- ---- tests
 
 -- on either way
-either : {A : Type 0} (P : A → Type 0) {x y : A} (t : Bool) → P x → P y → P (cond t x y)
+pub either : {A : Type 0} (P : A → Type 0) {x y : A} (t : Bool) → P x → P y → P (cond t x y)
 either P t h k = cond-cases P t (λ e. h) (λ e. k)
 
 -- a quotation mark is no `<`
@@ -75,12 +75,12 @@ quote-solid q h = ne-eqb 60 q (λ e. clash (subst (λ x. isQuote x ≡ true) (sy
     clash : isQuote 60 ≡ true → ⊥
     clash z = let y : _≡_ {A = ℕ} 0 1 = cc in absurd (omega arith)
 
-later-solid : (t : Bool) (low high : ℕ) → 60 < low → between (cond t low 128) high 60 ≡ false
+pub later-solid : (t : Bool) (low high : ℕ) → 60 < low → between (cond t low 128) high 60 ≡ false
 later-solid t low high h = between-below (cond t low 128) high 60 (cond-cases (λ n. 60 < n) t (λ e. h) (λ e. omega arith))
 
 -- ---- names
 
-abbrev Letter : ℕ → Type 0
+abbrev pub Letter : ℕ → Type 0
 Letter x = (isName classOf x || eqb x 58) ≡ true
 
 name-letter : (x : ℕ) → isName classOf x ≡ true → Letter x
