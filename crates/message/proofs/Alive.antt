@@ -1,24 +1,20 @@
 -- Where the machine has come to a place, it went through every place before it, with nothing due there. So no cause of a refusal stands before. Assumes nothing.
-use Prim.Native.Nat.{ℕ, zero, suc, _+_, _<_, _≤_}
+use Prim.Native.Nat.{ℕ, zero, suc, _+_, _<_}
 use mathlib.Core.Path.{_≡_, refl, sym, _∙_, ap, subst}
-use mathlib.Core.Bool.{Bool, true, false, cond, not, _&&_, _||_}
+use mathlib.Core.Bool.{Bool, true, false, cond, not, _&&_, _||_, Bool·not-not, true≢false, or-true as or-yes}
 use mathlib.Core.List.{List}
 use native.Mathlib.Numerals.{add-one}
 use native.Mathlib.Decide.{decLt}
 use native.Mathlib.Omega.{arith}
 use lib.ListN.{length}
-use lib.Dec.{ltb, leb}
+use lib.Dec.{ltb}
 use borrow.Author.Tests.{ltb-true}
-use Rattle.message.specs.Class.{classOf, isStart}
-use Rattle.message.specs.Reading.{is, byteAt, has}
+use Rattle.message.specs.Reading.{byteAt}
 use Rattle.message.specs.Limits.{Limits}
 use Rattle.message.proofs.Laws.{and-true, or-true, both-first, both-second}
-use Rattle.message.proofs.Automaton.{State, ground, inTag, Next, dead, goes, step}
+use Rattle.message.proofs.Automaton.{State, Next, dead, goes, step}
 use Rattle.message.proofs.Dues.{opening, tooDeep, long, due, further, stateAt, At}
 use Rattle.message.proofs.Going.{Cause, dies, cut, deep, crowded, opens, longs, Stuck}
-
-clash : true ≡ false → ⊥
-clash e = let z : _≡_ {A = ℕ} 0 1 = cc in absurd (omega arith)
 
 module _ (l : Limits) (s : List ℕ) where
   pub state-one : (i : ℕ) (st st′ : State) → At l s st i → At l s st′ i → st ≡ st′
@@ -27,10 +23,6 @@ module _ (l : Limits) (s : List ℕ) where
   -- the machine goes on over the byte at i
   abbrev pub Passes : ℕ → State → State → Type 0
   Passes i st next = At l s st i × (due l s st i ≡ false) × (step st (byteAt s i) ≡ goes next) × At l s next (i + 1) × (i < length s)
-
-  not-false : (t : Bool) → not t ≡ true → t ≡ false
-  not-false true e = absurd (clash (sym e))
-  not-false false e = refl
 
   -- the step before a place
   step-back : (i : ℕ) (next : State) → At l s next (suc i) → (st : State) × Passes i st next
@@ -42,9 +34,11 @@ module _ (l : Limits) (s : List ℕ) where
       go (goes st) q e = turn (ltb i (length s) && not (due l s st i)) refl e
         where
           turn : (t : Bool) → (ltb i (length s) && not (due l s st i)) ≡ t → cond t (step st (byteAt s i)) dead ≡ goes next → (st : State) × Passes i st next
-          turn false free z = let z : _≡_ {A = ℕ} 0 1 = cc in absurd (omega arith)
+          turn false free z = let y : _≡_ {A = ℕ} 0 1 = cc in absurd (omega arith)
           turn true free z =
-              (st, (q, not-false (due l s st i) (both-second (ltb i (length s)) (not (due l s st i)) free), z, rw add-one here, ltb-true i (length s) (both-first (ltb i (length s)) (not (due l s st i)) free)))
+              let inside : i < length s = ltb-true i (length s) (both-first (ltb i (length s)) (not (due l s st i)) free) in
+              let undue : not (due l s st i) ≡ true = both-second (ltb i (length s)) (not (due l s st i)) free in
+              (st, (q, sym (Bool·not-not (due l s st i)) ∙ ap not undue, z, rw add-one here, inside))
 
   pub alive-before : (p i : ℕ) (st : State) → At l s st p → i < p
       → (before : State) × (next : State) × At l s before i × (due l s before i ≡ false) × (step before (byteAt s i) ≡ goes next) × At l s next (i + 1) × (i < length s)
@@ -59,24 +53,22 @@ module _ (l : Limits) (s : List ℕ) where
             (back .0, st, go .0, go .1, go .2, go .3, go .4)
       ]
 
-  or-second : (t u : Bool) → u ≡ true → (t || u) ≡ true
-  or-second true u e = refl
-  or-second false u e = e
-
   -- a cause leaves no way on
   no-cause : (n i : ℕ) (st next : State) → Cause l s st i n → i < length s → due l s st i ≡ false → step st (byteAt s i) ≡ goes next → ⊥
   no-cause n i st next (dies inside e) less free q = let z : dead ≡ goes next = sym e ∙ q in let y : _≡_ {A = ℕ} 0 1 = cc in absurd (omega arith)
   no-cause n i st next (cut out e) less free q = absurd (omega arith)
   no-cause n i st next (deep g same h d) less free q =
-      clash (sym (sym (and-true _ h) ∙ or-second (opening l s g i) (tooDeep l s g i) d) ∙ ap (λ (x : State). due l s x i) (sym same) ∙ free)
+      true≢false (sym (rw d (or-yes (opening l s g i))) ∙ and-true _ h ∙ ap (λ (x : State). due l s x i) (sym same) ∙ free)
   no-cause n i st next (crowded m seen o same h d room) less free q =
-      clash (or-true (long l s i) d ∙ and-true _ h ∙ ap (λ (x : State). due l s x i) (sym same) ∙ free)
+      true≢false (or-true (long l s i) d ∙ and-true _ h ∙ ap (λ (x : State). due l s x i) (sym same) ∙ free)
   no-cause n i st next (opens g same h d) less free q =
-      clash (or-true (tooDeep l s g i) d ∙ and-true _ h ∙ ap (λ (x : State). due l s x i) (sym same) ∙ free)
-  no-cause n i st next (longs d long-there onward e room part) less free q = clash (sym d ∙ free)
+      true≢false (or-true (tooDeep l s g i) d ∙ and-true _ h ∙ ap (λ (x : State). due l s x i) (sym same) ∙ free)
+  no-cause n i st next (longs d long-there onward e room part) less free q = true≢false (sym d ∙ free)
 
   pub not-stuck-before : (n q p : ℕ) (st : State) → Stuck l s n q → At l s st p → q < p → ⊥
   not-stuck-before n q p st stuck here less =
       let a = alive-before p q st here less in
       let same = state-one q (a .0) (stuck .0) (a .2) (stuck .1) in
-      no-cause n q (stuck .0) (a .1) (stuck .2) (a .6) (subst (λ (x : State). due l s x q ≡ false) same (a .3)) (subst (λ (x : State). step x (byteAt s q) ≡ goes (a .1)) same (a .4))
+      no-cause n q (stuck .0) (a .1) (stuck .2) (a .6)
+      (subst (λ (x : State). due l s x q ≡ false) same (a .3))
+      (subst (λ (x : State). step x (byteAt s q) ≡ goes (a .1)) same (a .4))

@@ -1,21 +1,20 @@
 -- What bytes that may follow say of the state that the machine is in: where a comment may stand markup may begin, and as many end tags as end a message are the
 -- elements that are open. Assumes nothing.
 use Prim.Native.Nat.{ℕ, zero, suc, _≤_}
-use mathlib.Core.Path.{_≡_, refl, sym, _∙_, ap, subst}
-use mathlib.Core.Bool.{Bool, true, false, cond, _||_}
+use mathlib.Core.Path.{_≡_, refl, sym, _∙_, ap}
+use mathlib.Core.Bool.{Bool, true, false, cond, _||_, true≢false}
 use mathlib.Core.List.{List, [], _∷_, _++_}
 use native.Mathlib.Omega.{arith}
 use lib.ListN.{length}
-use lib.Dec.{leb, eqb}
+use lib.Dec.{eqb}
 use borrow.Author.Tests.{ne-eqb, eqb-true, leb-true}
 use Rattle.message.specs.Class.{classOf, isName, isSpace}
 use Rattle.message.specs.Reading.{is}
 use Rattle.message.specs.Elements.{isKnown}
 use Rattle.message.specs.Readable.{aComment, endTags, NameLike, EachNameLike}
-use Rattle.message.proofs.Laws.{cond-cases}
 use Rattle.message.proofs.Automaton.{Ground, first, before, behind, inside, State, ground, opened, expect, blanks, declared, versionQuote, encodingQuote, versioned, encodingName, note, second, ampersand, ampersandA, hash, firstDigit, number, name, colon, inTag, slash, attribute, attributeColon, quote, value, close, Next, dead, goes, rest, after, closing, step, steps}
 use Rattle.message.proofs.Dues.{depth}
-use Rattle.message.proofs.Sound.{Letter, Sane, SaneGround, quote-solid, later-solid, either}
+use Rattle.message.proofs.Sound.{Letter, Sane, quote-solid, later-solid, either}
 
 stays-dead : (next : State) → dead ≡ goes next → ⊥
 stays-dead next e = let z : _≡_ {A = ℕ} 0 1 = cc in absurd (omega arith)
@@ -29,9 +28,7 @@ dies-there st next x w h e = stays-dead next (rw (h, steps) at e)
 
 -- a byte that stands in no name
 letter-other : (x c : ℕ) → Letter x → (isName classOf c || eqb c 58) ≡ false → x ≡ c → ⊥
-letter-other x c h out e =
-    let z : true ≡ false = sym h ∙ ap (λ (y : ℕ). isName classOf y || eqb y 58) e ∙ out in
-    let y : _≡_ {A = ℕ} 0 1 = cc in absurd (omega arith)
+letter-other x c h out e = true≢false (sym h ∙ ap (λ (y : ℕ). isName classOf y || eqb y 58) e ∙ out)
 
 letter-solid : (x : ℕ) → Letter x → is x 60 ≡ false
 unfolding classOf

@@ -1,5 +1,7 @@
 -- `Laws` and `Digits` are about single readings, `Parts` about parts of the message; `ClassTable` computes the table. `Progress`, `MarkupLoop` and `Trees` show that what is
 -- read whole ends past where it began, `Loops` what a loop over a reader keeps, and `Facts` that each element is what is read again at its place.
+-- `Sound` is what holds in every state of the machine of `Automaton`, `Inverse` what a comment and end tags behind it say of a state, and `Alive` that the machine went through all
+-- that is before it.
 pub mod Laws
 pub mod Digits
 pub mod Parts

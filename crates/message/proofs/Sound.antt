@@ -2,7 +2,7 @@
 -- Assumes nothing.
 use Prim.Native.Nat.{ℕ, zero, suc, _+_, _*_, _<_}
 use mathlib.Core.Path.{_≡_, refl, sym, subst}
-use mathlib.Core.Bool.{Bool, true, false, cond, not, _&&_, _||_}
+use mathlib.Core.Bool.{Bool, true, false, cond, not, _&&_, _||_, false≢true}
 use mathlib.Core.List.{List, [], _∷_, _++_}
 use native.Mathlib.Omega.{arith}
 use lib.ListN.{length}
@@ -15,7 +15,7 @@ use Rattle.message.specs.Elements.{isKnown}
 use Rattle.message.specs.Limits.{Limits}
 use Rattle.message.specs.Readable.{NameLike, EachNameLike}
 use Rattle.message.proofs.Laws.{cond-cases, or-true, between-below}
-use Rattle.message.proofs.Automaton.{Test, exact, exactly, laterTest, secondFour, thirdThree, Ground, first, before, behind, inside, State, ground, opened, expect, blanks, declared, versionQuote, encodingQuote, versioned, encodingName, note, second, ampersand, ampersandA, hash, firstDigit, number, name, colon, inTag, slash, attribute, attributeColon, quote, value, close, Next, dead, goes, only, expecting, rest, after, closing, comment, equals, versionWord, encodingWord, declaredEnd, leads, special, brackets, text, betweenTags, named, tag, stepNote, base, numbered, digit, stepAmpersand, stepBlanks, stepInTag, stepAttribute, step, steps}
+use Rattle.message.proofs.Automaton.{Test, exact, Ground, first, before, behind, inside, State, ground, opened, expect, blanks, declared, versionQuote, encodingQuote, versioned, encodingName, note, second, ampersand, ampersandA, hash, firstDigit, number, name, colon, inTag, slash, attribute, attributeColon, quote, value, close, Next, dead, goes, expecting, rest, after, closing, leads, special, text, betweenTags, named, tag, stepNote, base, numbered, digit, stepAmpersand, stepBlanks, stepInTag, stepAttribute, step, steps}
 use Rattle.message.proofs.Dues.{due, further, stateAt, At}
 
 -- ---- the states
@@ -70,10 +70,7 @@ either P t h k = cond-cases P t (λ e. h) (λ e. k)
 
 -- a quotation mark is no `<`
 pub quote-solid : (q : ℕ) → isQuote q ≡ true → is q 60 ≡ false
-quote-solid q h = ne-eqb 60 q (λ e. clash (subst (λ x. isQuote x ≡ true) (sym e) h))
-  where
-    clash : isQuote 60 ≡ true → ⊥
-    clash z = let y : _≡_ {A = ℕ} 0 1 = cc in absurd (omega arith)
+quote-solid q h = ne-eqb 60 q (λ e. false≢true (subst (λ (x : ℕ). isQuote x ≡ true) (sym e) h))
 
 pub later-solid : (t : Bool) (low high : ℕ) → 60 < low → between (cond t low 128) high 60 ≡ false
 later-solid t low high h = between-below (cond t low 128) high 60 (cond-cases (λ n. 60 < n) t (λ e. h) (λ e. omega arith))
@@ -121,14 +118,16 @@ closing-sane (y ∷ w) fresh o h = h
 leads-sane : (k : State) (x : ℕ) → Sane k → SaneNext (leads k x)
 leads-sane k x h =
     either SaneNext (between 194 223 x) ((refl, tt), h)
-    (either SaneNext (between 224 239 x) h (cond-cases SaneNext (between 240 244 x) (λ e. ((later-solid (eqb x 240) 144 (cond (eqb x 244) 143 191) (omega arith), (refl, (refl, tt))), h)) (λ e. tt)))
+    (either SaneNext (between 224 239 x) h
+    (either SaneNext (between 240 244 x) ((later-solid (eqb x 240) 144 (cond (eqb x 244) 143 191) (omega arith), (refl, (refl, tt))), h) tt))
 
 special-sane : (k : State) (x : ℕ) → Sane k → SaneNext (special k x)
 special-sane k x h = either SaneNext (is 38 x) h (leads-sane k x h)
 
 text-sane : (b : ℕ) (v : List ℕ) (o : List (List ℕ)) (x : ℕ) → EachNameLike (v ∷ o) → SaneNext (text b v o x)
 text-sane b v o x h =
-    either SaneNext (is 93 x) h (either SaneNext (isText classOf x) (either SaneNext (eqb b 2 && is 62 x) tt h) (special-sane (ground (inside 0 v o)) x h))
+    either SaneNext (is 93 x) h
+    (either SaneNext (isText classOf x) (either SaneNext (eqb b 2 && is 62 x) tt h) (special-sane (ground (inside 0 v o)) x h))
 
 between-sane : (g : Ground) (x : ℕ) → SaneGround g → SaneNext (betweenTags g x)
 between-sane first x h = either SaneNext (isSpace classOf x) tt tt
@@ -237,7 +236,7 @@ unfolding steps
 steps-sane [] st h = h
 steps-sane (x ∷ w) st h = on (λ st′ so. steps-sane w st′ so) (step st x) (next-sane st x h)
   where
-    on : ((st′ : State) → Sane st′ → SaneNext (steps st′ w)) → (n : Next) → SaneNext n → SaneNext (elim n [ | dead ↦ dead | goes st′ ↦ steps st′ w ])
+    on : ((st′ : State) → Sane st′ → SaneNext (steps st′ w)) → (n : Next) → SaneNext n → SaneNext (elim n [ dead ↦ dead | goes st′ ↦ steps st′ w ])
     on more dead so = tt
     on more (goes st′) so = more st′ so
 
