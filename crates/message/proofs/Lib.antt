@@ -3,6 +3,8 @@
 -- `Kept` and `Again` say what raised limits change, `ByForm` and `Unlimited` what is refused with limits out of the way, and `Raising` proves specs/Raised.
 -- read whole ends past where it began, `Loops` what a loop over a reader keeps, and `Facts` that each element is what is read again at its place. `Meanings` proves promise 6,
 -- with `Letters` about texts and `Decimals` about numbers in them.
+-- `Sound` is what holds in every state of the machine of `Automaton`, `Inverse` what a comment and end tags behind it say of a state, and `Alive` that the machine went through all
+-- that is before it.
 pub mod Laws
 pub mod Digits
 pub mod Parts
@@ -28,3 +30,6 @@ pub mod Decimals
 pub mod Meanings
 pub mod GoingCharacters
 pub mod GoingText
+pub mod Sound
+pub mod Inverse
+pub mod Alive
