@@ -23,6 +23,7 @@ use Rattle.message.proofs.Automaton.{State, ground, inside, inTag, slas
 use Rattle.message.proofs.Dues.{long, due, At}
 use Rattle.message.proofs.Going.{MarkedAt, Crowd, Roomy, Stuck, crowded, Outcome, outcome-then, outcome-as, outcome-one, at-has, at-ends}
 use Rattle.message.proofs.Acting.{ends-fails, fails-byte, stuck-here, Acts, acts-has, acts-stuck, acts-one, acts-as, acts-at, acts-blanks}
+use Rattle.message.proofs.GoingText.{going-value}
 use Rattle.message.proofs.GoingNames.{colon-no-name, part-one, Naming, Before, NameRead, NameBefore, going-name}
 
 -- a quotation mark is no white space
@@ -59,10 +60,7 @@ space-no-start s i h =
     ∙ ne-eqb (classOf (byteAt s i)) 5 (λ e. let z : _≡_ {A = ℕ} 3 5 = sym (eqb-true (classOf (byteAt s i)) 3 (has-byte (isSpace classOf) s i h)) ∙ e in omega arith)
 
 module _ (l : Limits) (s : List ℕ) where
-  abbrev Value : Type 0
-  Value = (q : ℕ) → isQuote q ≡ true → (n : List ℕ) (seen o : List (List ℕ)) (fuel i : ℕ) → length s ≤ fuel + i → At l s (value q n seen o) i → Outcome l s (λ e. At l s (value q n seen o) e × (has (is q) s e ≡ true)) (valueAt classOf fuel q s i)
-
-  module _ (going-value : Value) (n : List ℕ) (o : List (List ℕ)) where
+  module _ (n : List ℕ) (o : List (List ℕ)) where
     -- ---- `=` and a value, after the name a
 
     -- what the machine does there
@@ -101,7 +99,7 @@ module _ (l : Limits) (s : List ℕ) where
     going-quoted seen i acts =
         outcome-then l s _ (λ v. At l s (inTag false n seen o) (v .to + 1)) _ (openedAt classOf s i) (going-opened seen i acts) (λ b q at-b.
         outcome-then l s _ (λ v. At l s (inTag false n seen o) (v .to + 1)) _ (valueAt classOf (length s) (byteAt s (b - 1)) s b)
-        (going-value (byteAt s (b - 1)) (at-b .1) n seen o (length s) b (omega arith) (at-b .0))
+        (going-value l s (byteAt s (b - 1)) (at-b .1) n seen o (length s) b (omega arith) (at-b .0))
         (λ e r at-e. at-has l s (is (byteAt s (b - 1))) e (at-e .0) (at-e .1) refl (rw (has-byte (is (byteAt s (b - 1))) s e (at-e .1)))))
 
     -- ---- the name of one more

@@ -30,6 +30,7 @@ pub mod Decimals
 pub mod Meanings
 pub mod GoingCharacters
 pub mod GoingText
+pub mod GoingEndTags
 pub mod Sound
 pub mod Inverse
 pub mod Alive
