@@ -12,3 +12,4 @@ pub mod Facts
 pub mod Automaton
 pub mod Dues
 pub mod Going
+pub mod Endings
