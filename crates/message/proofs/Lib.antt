@@ -13,3 +13,5 @@ pub mod Automaton
 pub mod Dues
 pub mod Going
 pub mod Endings
+pub mod Ways
+pub mod Past
