@@ -1,21 +1,22 @@
 -- Each state of the machine can be brought to an end: bytes are given that lead from it behind the root. Assumes nothing.
 use Prim.Native.Nat.{ℕ, zero, suc, _+_, _*_, _<_, _≤_}
-use mathlib.Core.Path.{_≡_, refl, sym, _∙_, ap}
-use mathlib.Core.Bool.{Bool, true, false, cond, _||_}
+use mathlib.Core.Path.{_≡_, refl, sym, _∙_}
+use mathlib.Core.Bool.{Bool, true, false, cond}
 use mathlib.Core.List.{List, [], _∷_, _++_}
 use native.Mathlib.Omega.{arith}
 use native.Mathlib.Decide.{decLt}
 use lib.ListN.{length, length-append}
 use lib.Dec.{ltb, leb, eqb}
 use borrow.Author.Tests.{eq-eqb, ne-eqb, eqb-true, eqb-false, ltb-true, ltb-false, leb-true, leb-false}
-use Rattle.message.specs.Class.{classOf, between, isSpace}
+use Rattle.message.specs.Class.{classOf, isSpace}
 use Rattle.message.specs.Reading.{is}
 use Rattle.message.specs.Characters.{legal, isDigit, digitOf}
 use Rattle.message.specs.Elements.{isKnown}
 use Rattle.message.specs.Readable.{endTags}
 use Rattle.message.proofs.Laws.{cond-cases, between-yes, between-above}
 use Rattle.message.proofs.Parts.{other-length}
-use Rattle.message.proofs.Automaton.{Test, exact, exactly, laterTest, secondThree, thirdThree, Ground, first, before, behind, inside, State, ground, opened, expect, blanks, declared, versionQuote, encodingQuote, versioned, encodingName, note, second, ampersand, ampersandA, hash, firstDigit, number, name, colon, inTag, slash, attribute, attributeColon, quote, value, close, Next, dead, goes, expecting, after, closing, declaredEnd, base, numbered, step, steps}
+use Rattle.message.proofs.Automaton.{Test, exact, exactly, secondThree, thirdThree, Ground, first, before, behind, inside, State, ground, opened, expect, blanks, declared, versionQuote, encodingQuote, versioned, encodingName, note, second, ampersand, ampersandA, hash, firstDigit, number, name, colon, inTag, slash, attribute, attributeColon, quote, value, close, goes, expecting, after, closing, declaredEnd, base, numbered, step, steps}
+use Rattle.message.proofs.Ways.{steps-on}
 
 -- ---- the bytes
 
@@ -91,8 +92,7 @@ Ends st u = steps st u ≡ goes (ground behind)
 
 -- by a step
 on : (st : State) {next : State} (x : ℕ) (u : List ℕ) → step st x ≡ goes next → Ends next u → Ends st (x ∷ u)
-unfolding steps
-on st x u e h = rw (e, steps) h
+on st x u e h = steps-on st x u e ∙ h
 
 ends-expecting : (ts : List Test) (k : State) (u : List ℕ) → Ends k u → Ends (expecting ts k) (samples ts u)
 ends-expecting [] k u h = h
@@ -132,12 +132,20 @@ legal-low n low high =
 
 legal-high : (n : ℕ) → 65536 ≤ n → n ≤ 1114111 → legal n ≡ true
 legal-high n low high =
-    rw (ne-eqb n 9 (λ e. omega arith), ne-eqb n 10 (λ e. omega arith), ne-eqb n 13 (λ e. omega arith), between-above 32 55295 n (omega arith),
-        between-above 57344 65533 n (omega arith), between-yes 65536 1114111 n low high)
+    rw (
+      ne-eqb n 9 (λ e. omega arith),
+      ne-eqb n 10 (λ e. omega arith),
+      ne-eqb n 13 (λ e. omega arith),
+      between-above 32 55295 n (omega arith),
+      between-above 57344 65533 n (omega arith),
+      between-yes 65536 1114111 n low high,
+    )
 
 not-legal : (n : ℕ) → 32 ≤ n → n ≤ 1114111 → legal n ≡ false → (55296 ≤ n) × (n ≤ 65535)
-not-legal n low high e = (elim (decLt n 55296) [ | yes h ↦ absurd (clash (legal-low n low (omega arith))) | no h ↦ omega arith ],
-    elim (decLt 65535 n) [ | yes h ↦ absurd (clash (legal-high n (omega arith) high)) | no h ↦ omega arith ])
+not-legal n low high e = (
+  elim (decLt n 55296) [ yes h ↦ absurd (clash (legal-low n low (omega arith))) | no h ↦ omega arith ],
+  elim (decLt 65535 n) [ yes h ↦ absurd (clash (legal-high n (omega arith) high)) | no h ↦ omega arith ],
+)
   where
     clash : legal n ≡ true → ⊥
     clash q = let z : _≡_ {A = ℕ} 0 1 = cc in omega arith
@@ -189,7 +197,7 @@ module _ (k : State) (u : List ℕ) (h : Ends k u) where
       (λ low. let far = not-legal n (ltb-false n 32 low) (leb-true n 1114111 small) e in ends-one hex n small (far .0) (far .1))))
     where
       nonzero : eqb n 0 ≡ false → 1 ≤ n
-      nonzero z = elim (decLt 0 n) [ | yes q ↦ q | no q ↦ absurd (eqb-false n 0 z (omega arith)) ]
+      nonzero z = elim (decLt 0 n) [ yes q ↦ q | no q ↦ absurd (eqb-false n 0 z (omega arith)) ]
 
 -- ---- all of them
 

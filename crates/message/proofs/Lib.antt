@@ -15,3 +15,4 @@ pub mod Going
 pub mod Endings
 pub mod Ways
 pub mod Past
+pub mod Openings

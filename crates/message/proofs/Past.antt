@@ -1,21 +1,17 @@
 -- No step leads back to the start of a message. Assumes nothing.
-use Prim.Native.Nat.{ℕ, zero, suc, _+_, _*_, _<_, _≤_}
-use mathlib.Core.Path.{_≡_, refl, sym, _∙_, subst}
+use Prim.Native.Nat.{ℕ, zero, suc, _+_, _*_}
+use mathlib.Core.Path.{_≡_, refl, subst}
 use mathlib.Core.Bool.{Bool, true, false, cond, not, _&&_}
-use mathlib.Core.List.{List, [], _∷_, _++_}
+use mathlib.Core.List.{List, [], _∷_}
 use native.Mathlib.Omega.{arith}
-use lib.ListN.{length, take}
-use lib.Seq.{take-suc}
-use lib.Dec.{ltb, leb, eqb}
-use borrow.Author.Tests.{ltb-true, not-true}
+use lib.Dec.{leb, eqb}
 use Rattle.message.specs.Class.{classOf, between, isStart, isName, isSpace, isText, isPlainNote}
 use Rattle.message.specs.Reading.{is, byteAt, isQuote}
 use Rattle.message.specs.Characters.{secondOfThree, isDigit, digitOf, closes}
 use Rattle.message.specs.Elements.{isKnown}
 use Rattle.message.specs.Limits.{Limits}
-use Rattle.message.proofs.Laws.{both-first, both-second}
-use Rattle.message.proofs.Automaton.{Test, Ground, first, before, behind, inside, State, ground, opened, expect, blanks, declared, versionQuote, encodingQuote, versioned, encodingName, note, second, ampersand, ampersandA, hash, firstDigit, number, name, colon, inTag, slash, attribute, attributeColon, quote, value, close, Next, dead, goes, only, expecting, rest, after, closing, versionWord, encodingWord, leads, special, betweenTags, named, tag, stepNote, base, numbered, digit, stepAmpersand, stepInTag, step, steps}
-use Rattle.message.proofs.Dues.{isFirst, due, further, stateAt, At}
+use Rattle.message.proofs.Automaton.{Test, Ground, first, before, behind, inside, State, ground, opened, expect, blanks, declared, versionQuote, encodingQuote, versioned, encodingName, note, second, ampersand, ampersandA, hash, firstDigit, number, name, colon, inTag, slash, attribute, attributeColon, quote, value, close, Next, dead, goes, only, expecting, rest, after, closing, versionWord, encodingWord, leads, special, betweenTags, named, tag, stepNote, base, numbered, digit, stepAmpersand, stepInTag, step}
+use Rattle.message.proofs.Dues.{isFirst, stateAt, At}
 use Rattle.message.proofs.Ways.{came}
 
 -- neither the start nor a state that goes on there

@@ -1,22 +1,19 @@
 -- The way of the machine through the first bytes of a message: where nothing is due before a place, the state there is the one that the bytes before it lead to.
 -- Assumes nothing.
-use Prim.Native.Nat.{ℕ, zero, suc, _+_, _*_, _<_, _≤_}
-use mathlib.Core.Path.{_≡_, refl, sym, _∙_, subst}
+use Prim.Native.Nat.{ℕ, zero, suc, _+_, _<_, _≤_}
+use mathlib.Core.Path.{_≡_, refl}
 use mathlib.Core.Bool.{Bool, true, false, cond, not, _&&_}
 use mathlib.Core.List.{List, [], _∷_, _++_}
 use native.Mathlib.Omega.{arith}
 use lib.ListN.{length, take}
 use lib.Seq.{take-suc}
-use lib.Dec.{ltb, leb, eqb}
+use lib.Dec.{ltb}
 use borrow.Author.Tests.{ltb-true, not-true}
-use Rattle.message.specs.Class.{classOf, between, isStart, isName, isSpace, isText, isPlainNote}
-use Rattle.message.specs.Reading.{is, byteAt, isQuote}
-use Rattle.message.specs.Characters.{secondOfThree, isDigit, digitOf, closes}
-use Rattle.message.specs.Elements.{isKnown}
+use Rattle.message.specs.Reading.{byteAt}
 use Rattle.message.specs.Limits.{Limits}
 use Rattle.message.proofs.Laws.{both-first, both-second}
-use Rattle.message.proofs.Automaton.{Test, Ground, first, before, behind, inside, State, ground, opened, expect, blanks, declared, versionQuote, encodingQuote, versioned, encodingName, note, second, ampersand, ampersandA, hash, firstDigit, number, name, colon, inTag, slash, attribute, attributeColon, quote, value, close, Next, dead, goes, only, expecting, rest, after, closing, versionWord, encodingWord, leads, special, betweenTags, named, tag, stepNote, base, numbered, digit, stepAmpersand, stepInTag, step, steps}
-use Rattle.message.proofs.Dues.{isFirst, due, further, stateAt, At}
+use Rattle.message.proofs.Automaton.{first, State, ground, Next, dead, goes, step, steps}
+use Rattle.message.proofs.Dues.{due, further, stateAt, At}
 
 -- ---- steps
 
@@ -39,7 +36,7 @@ steps-append (x ∷ u) v st = go (step st x) (steps-append u v)
   where
     -- behind a step, as `steps` has it
     on : Next → List ℕ → Next
-    on next w = elim next [ | dead ↦ dead | goes st′ ↦ steps st′ w ]
+    on next w = elim next [ dead ↦ dead | goes st′ ↦ steps st′ w ]
 
     go : (next : Next) → ((st′ : State) → steps st′ (u ++ v) ≡ then-steps (steps st′ u) v) → on next (u ++ v) ≡ then-steps (on next u) v
     go dead h = refl
