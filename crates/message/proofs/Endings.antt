@@ -98,7 +98,8 @@ ends-expecting : (ts : List Test) (k : State) (u : List ℕ) → Ends k u → En
 ends-expecting [] k u h = h
 ends-expecting (t ∷ ts) k u h = on _ (t .sample) (samples ts u) (rw (t .fits)) (ends-expecting ts k u h)
 
-ends-blanks : (t : Test) (solid : isSpace classOf (t .sample) ≡ false) (ts : List Test) (k : State) (u : List ℕ) → Ends k u → Ends (blanks t solid ts k) (samples (t ∷ ts) u)
+ends-blanks : (t : Test) (solid : isSpace classOf (t .sample) ≡ false) (ts : List Test) (k : State) (u : List ℕ) → Ends k u
+    → Ends (blanks t solid ts k) (samples (t ∷ ts) u)
 ends-blanks t solid ts k u h = on _ (t .sample) (samples ts u) (rw (solid, t .fits)) (ends-expecting ts k u h)
 
 -- ---- end tags
@@ -121,7 +122,8 @@ not-known a (n ∷ seen) h = rw (sym (other-length a n (λ e. absurd (omega arit
 
 ends-attribute : (m : ℕ) (t : Bool) (a n : List ℕ) (seen o : List (List ℕ)) → total seen < length a + m → Ends (attribute t a n seen o) (longer m o)
 unfolding steps classOf
-ends-attribute zero t a n seen o h = on (attribute t a n seen o) {next = quote n (a ∷ seen) o} 61 (34 ∷ 34 ∷ 47 ∷ 62 ∷ endTags o) (rw (not-known a seen (omega arith))) (ends-after o)
+ends-attribute zero t a n seen o h =
+    on (attribute t a n seen o) {next = quote n (a ∷ seen) o} 61 (34 ∷ 34 ∷ 47 ∷ 62 ∷ endTags o) (rw (not-known a seen (omega arith))) (ends-after o)
 ends-attribute (suc m) t a n seen o h = ends-attribute m t (a ++ (97 ∷ [])) n seen o (omega (arith, length-append a (97 ∷ [])))
 
 -- ---- a number
@@ -169,9 +171,11 @@ module _ (k : State) (u : List ℕ) where
 module _ (k : State) (u : List ℕ) (h : Ends k u) where
   ends-nine : (hex : Bool) (n : ℕ) (small : leb n 1114111 ≡ true) → n ≡ 0 → Ends (number hex n small k) (57 ∷ 59 ∷ u)
   ends-nine true n small z =
-      ends-digit k (59 ∷ u) true n 57 small refl (omega arith) (λ e. ends-legal k u true (n * 16 + 9) e (rw (eq-eqb (n * 16 + 9) 9 (omega arith))) h)
+      ends-digit k (59 ∷ u) true n 57 small refl (omega arith)
+      (λ e. ends-legal k u true (n * 16 + 9) e (rw (eq-eqb (n * 16 + 9) 9 (omega arith))) h)
   ends-nine false n small z =
-      ends-digit k (59 ∷ u) false n 57 small refl (omega arith) (λ e. ends-legal k u false (n * 10 + 9) e (rw (eq-eqb (n * 10 + 9) 9 (omega arith))) h)
+      ends-digit k (59 ∷ u) false n 57 small refl (omega arith)
+      (λ e. ends-legal k u false (n * 10 + 9) e (rw (eq-eqb (n * 10 + 9) 9 (omega arith))) h)
 
   ends-two : (hex : Bool) (n : ℕ) (small : leb n 1114111 ≡ true) → 1 ≤ n → n < 32 → Ends (number hex n small k) (48 ∷ 48 ∷ 59 ∷ u)
   ends-two true n small low high =
@@ -185,9 +189,11 @@ module _ (k : State) (u : List ℕ) (h : Ends k u) where
 
   ends-one : (hex : Bool) (n : ℕ) (small : leb n 1114111 ≡ true) → 55296 ≤ n → n ≤ 65535 → Ends (number hex n small k) (48 ∷ 59 ∷ u)
   ends-one true n small low high =
-      ends-digit k (59 ∷ u) true n 48 small refl (omega arith) (λ e. ends-legal k u true (n * 16 + 0) e (legal-high (n * 16 + 0) (omega arith) (omega arith)) h)
+      ends-digit k (59 ∷ u) true n 48 small refl (omega arith)
+      (λ e. ends-legal k u true (n * 16 + 0) e (legal-high (n * 16 + 0) (omega arith) (omega arith)) h)
   ends-one false n small low high =
-      ends-digit k (59 ∷ u) false n 48 small refl (omega arith) (λ e. ends-legal k u false (n * 10 + 0) e (legal-high (n * 10 + 0) (omega arith) (omega arith)) h)
+      ends-digit k (59 ∷ u) false n 48 small refl (omega arith)
+      (λ e. ends-legal k u false (n * 10 + 0) e (legal-high (n * 10 + 0) (omega arith) (omega arith)) h)
 
   ends-number : (hex : Bool) (n : ℕ) (small : leb n 1114111 ≡ true) → Ends (number hex n small k) (finishNumber n u)
   ends-number hex n small =

@@ -1,6 +1,6 @@
 -- Behind an opening of refusal 12 no message can end. Assumes nothing.
 use Prim.Native.Nat.{ℕ, suc, _+_}
-use mathlib.Core.Path.{_≡_, refl, sym, _∙_, ap, subst}
+use mathlib.Core.Path.{_≡_, refl, sym, _∙_, ap}
 use mathlib.Core.Logic.{_⊎_, ⊎-elim, inl, inr}
 use mathlib.Core.Bool.{Bool, true, false, not, _&&_, _||_}
 use mathlib.Core.List.{List, [], _∷_}
@@ -32,10 +32,15 @@ module _ (s : List ℕ) (st : State) (ends : mayEnd st ≡ true) where
     where
       go : (t : Bool) → test (byteAt s i) ≡ t → steps from (byteAt s i ∷ drop (suc i) s) ≡ goes st → t ≡ true
       go true e q = refl
-      go false e q = let y : dead ≡ goes st = sym (steps-dead from (byteAt s i) (drop (suc i) s) (dies (byteAt s i) e)) ∙ q in let z : _≡_ {A = ℕ} 0 1 = cc in absurd (omega arith)
+      go false e q =
+          let y : dead ≡ goes st = sym (steps-dead from (byteAt s i) (drop (suc i) s) (dies (byteAt s i) e)) ∙ q in
+          let z : _≡_ {A = ℕ} 0 1 = cc in absurd (omega arith)
 
       short : goes from ≡ goes st → ⊥
-      short q = let e : from ≡ st = cc in let y : false ≡ true = sym unended ∙ ap mayEnd e ∙ ends in let z : _≡_ {A = ℕ} 0 1 = cc in omega arith
+      short q =
+          let e : from ≡ st = cc in
+          let y : false ≡ true = sym unended ∙ ap mayEnd e ∙ ends in
+          let z : _≡_ {A = ℕ} 0 1 = cc in omega arith
 
   -- and where a byte takes the machine on
   on : (from next : State) (test : ℕ → Bool) (i : ℕ) → has test s i ≡ true → ((x : ℕ) → test x ≡ true → step from x ≡ goes next)
@@ -60,12 +65,13 @@ module _ (s : List ℕ) (st : State) (ends : mayEnd st ≡ true) where
   question-declares : has (is 60) s 0 ≡ true → has (is 63) s 1 ≡ true → steps (opened first) (drop 1 s) ≡ goes st → declares classOf s ≡ true
   unfolding wordAt
   question-declares opens question h =
-      let x = must (expect (exact 120) (exactly (109 ∷ 108 ∷ [])) declared) (expect (exact 109) (exactly (108 ∷ [])) declared) (is 120) 2 refl (λ x. refl)
-      (on (opened first) (expect (exact 120) (exactly (109 ∷ 108 ∷ [])) declared) (is 63) 1 question (λ x e. rw (eqb-true x 63 e)) h) in
-      let m = must (expect (exact 109) (exactly (108 ∷ [])) declared) (expect (exact 108) [] declared) (is 109) 3 refl (λ x. refl) (x .1) in
+      let behind-it = on (opened first) (expect (exact 120) (exactly (109 ∷ 108 ∷ [])) declared) (is 63) 1 question (λ x e. rw (eqb-true x 63 e)) h in
+      let x = must (expect (exact 120) _ declared) (expect (exact 109) (exactly (108 ∷ [])) declared) (is 120) 2 refl (λ x. refl) behind-it in
+      let m = must (expect (exact 109) _ declared) (expect (exact 108) [] declared) (is 109) 3 refl (λ x. refl) (x .1) in
       let l = must (expect (exact 108) [] declared) declared (is 108) 4 refl (λ x. refl) (m .1) in
       let space = must declared versionWord (isSpace classOf) 5 refl (λ x. refl) (l .1) in
-      rw (one-yes (is 60) s 0 opens, one-yes (is 63) s 1 question, one-yes (is 120) s 2 (x .0), one-yes (is 109) s 3 (m .0), one-yes (is 108) s 4 (l .0)) (space .0)
+      rw (one-yes (is 60) s 0 opens, one-yes (is 63) s 1 question, one-yes (is 120) s 2 (x .0), one-yes (is 109) s 3 (m .0), one-yes (is 108) s 4 (l .0))
+      (space .0)
 
   -- elsewhere it is dead
   question-dead : (g : Ground) (i : ℕ) → has (is 63) s i ≡ true → ((x : ℕ) → is 63 x ≡ true → step (opened g) x ≡ dead)
@@ -110,7 +116,8 @@ pub opening-ends : (l : Limits) (s : List ℕ) (g : Ground) (p : ℕ) → (isFir
 opening-ends l s g p start opens op st h ends =
     ⊎-elim
     (λ e. bang (both-first (has (is 33) s (p + 1)) _ e) (either (isWhole (wordAt doctype s (p + 2))) _ (both-second (has (is 33) s (p + 1)) _ e)))
-    (λ e. question-ends s st ends g p start opens (both-first (has (is 63) s (p + 1)) _ e) (not-true _ (both-second (has (is 63) s (p + 1)) _ e)) behind-it)
+    (λ e. question-ends s st ends g p start opens (both-first (has (is 63) s (p + 1)) _ e) (not-true _ (both-second (has (is 63) s (p + 1)) _ e))
+    behind-it)
     (either (has (is 33) s (p + 1) && (isWhole (wordAt doctype s (p + 2)) || isWhole (wordAt cdata s (p + 2)))) _ op)
   where
     behind-it : steps (opened g) (drop (p + 1) s) ≡ goes st
@@ -118,7 +125,8 @@ opening-ends l s g p start opens op st h ends =
 
     bang : has (is 33) s (p + 1) ≡ true → (isWhole (wordAt doctype s (p + 2)) ≡ true) ⊎ (isWhole (wordAt cdata s (p + 2)) ≡ true) → ⊥
     bang e words =
-        let hyphen : has (is 45) s (p + 2) ≡ true = subst (λ (i : ℕ). has (is 45) s i ≡ true) (omega arith) (bang-on s st ends g (p + 1) e behind-it) in
+        let two : p + 1 + 1 ≡ p + 2 = omega arith in
+        let hyphen : has (is 45) s (p + 2) ≡ true = ap (has (is 45) s) (sym two) ∙ bang-on s st ends g (p + 1) e behind-it in
         ⊎-elim
         (λ w. let z : _≡_ {A = ℕ} 45 68 = two-bytes 45 68 s (p + 2) hyphen (word-begins 68 _ s (p + 2) w) in omega arith)
         (λ w. let z : _≡_ {A = ℕ} 45 91 = two-bytes 45 91 s (p + 2) hyphen (word-begins 91 _ s (p + 2) w) in omega arith) words

@@ -84,7 +84,8 @@ past-between first x = past-only (isSpace classOf x) (ground before) refl
 past-between before x = past-only (isSpace classOf x) (ground before) refl
 past-between behind x = past-only (isSpace classOf x) (ground behind) refl
 past-between (inside b v o) x =
-    past-cond (is 93 x) _ _ refl (past-cond (isText classOf x) _ _ (past-cond (eqb b 2 && is 62 x) _ _ tt refl) (past-special (ground (inside 0 v o)) x refl))
+    past-cond (is 93 x) _ _ refl
+    (past-cond (isText classOf x) _ _ (past-cond (eqb b 2 && is 62 x) _ _ tt refl) (past-special (ground (inside 0 v o)) x refl))
 
 past-ground : (g : Ground) (x : ℕ) → PastNext (step (ground g) x)
 past-ground g x = past-cond (is 60 x) _ _ tt (past-between g x)
@@ -129,7 +130,8 @@ past-step (blanks t solid ts k) x h = past-cond (isSpace classOf x) _ _ h (past-
 past-step declared x h = past-only (isSpace classOf x) versionWord tt
 past-step versionQuote x h = past-cond (isSpace classOf x) _ _ tt (past-only (isQuote x) _ tt)
 past-step encodingQuote x h = past-cond (isSpace classOf x) _ _ tt (past-only (isQuote x) (encodingName x) tt)
-past-step (versioned spaced) x h = past-cond (isSpace classOf x) _ _ tt (past-cond (is 63 x) _ _ refl (past-only (spaced && is 101 x) encodingWord tt))
+past-step (versioned spaced) x h =
+    past-cond (isSpace classOf x) _ _ tt (past-cond (is 63 x) _ _ refl (past-only (spaced && is 101 x) encodingWord tt))
 past-step (encodingName q) x h = past-cond (is 117 x) _ _ refl (past-only (is 85 x) _ refl)
 past-step (note c k) x h = past-note c k x h
 past-step (second lead k) x h = past-only (secondOfThree lead x) _ h
@@ -144,7 +146,8 @@ past-step (inTag spaced n seen o) x h = past-in-tag spaced n seen o x
 past-step (slash o) x h = past-only (is 62 x) (after o) (past-after o)
 past-step (attribute t a n seen o) x h =
     past-cond (isName classOf x) _ _ tt
-    (past-cond (is 58 x && not t) _ _ tt (past-cond (isKnown a seen) _ _ tt (past-cond (isSpace classOf x) _ _ tt (past-only (is 61 x) (quote n (a ∷ seen) o) tt))))
+    (past-cond (is 58 x && not t) _ _ tt (past-cond (isKnown a seen) _ _ tt
+    (past-cond (isSpace classOf x) _ _ tt (past-only (is 61 x) (quote n (a ∷ seen) o) tt))))
 past-step (attributeColon a n seen o) x h = past-only (isStart classOf x) _ tt
 past-step (quote n seen o) x h = past-cond (isSpace classOf x) _ _ tt (past-only (isQuote x) (value x n seen o) tt)
 past-step (value q n seen o) x h = past-cond (is q x) _ _ tt (past-cond (isText classOf x) _ _ tt (past-special (value q n seen o) x tt))

@@ -1,5 +1,5 @@
--- The way of the machine through the first bytes of a message: where nothing is due before a place, the state there is the one that the bytes before it lead to.
--- Assumes nothing.
+-- The way of the machine through the first bytes of a message: where nothing is due before a place, the state there is the one that the bytes
+-- before it lead to. Assumes nothing.
 use Prim.Native.Nat.{ℕ, zero, suc, _+_, _<_, _≤_}
 use mathlib.Core.Path.{_≡_, refl}
 use mathlib.Core.Bool.{Bool, true, false, cond, not, _&&_}
@@ -57,7 +57,8 @@ module _ (l : Limits) (s : List ℕ) where
   unfolding stateAt
   came i st h = go (stateAt l s i) refl h
     where
-      turn : (from : State) → At l s from i → (t : Bool) → (ltb i (length s) && not (due l s from i)) ≡ t → cond t (step from (byteAt s i)) dead ≡ goes st → Came i st
+      turn : (from : State) → At l s from i → (t : Bool) → (ltb i (length s) && not (due l s from i)) ≡ t
+          → cond t (step from (byteAt s i)) dead ≡ goes st → Came i st
       turn from here true e q = record {
         from = from;
         here = here;
