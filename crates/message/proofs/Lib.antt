@@ -34,3 +34,7 @@ pub mod GoingEndTags
 pub mod Sound
 pub mod Inverse
 pub mod Alive
+pub mod Endings
+pub mod Ways
+pub mod Past
+pub mod Openings
