@@ -9,3 +9,5 @@ pub mod Loops
 pub mod MarkupLoop
 pub mod Trees
 pub mod Facts
+pub mod Numbers
+pub mod Carried
