@@ -130,20 +130,26 @@ module _ (class : ℕ → ℕ) (s : List ℕ) (l : Limits) where
 
   -- ---- a message
 
-  -- the root of a message that was read is what is read again at its place
-  pub document-root : (levels at : ℕ) (e : Element) → l .levels ≡ suc levels → documentAt class s l at ≡ whole e → elementAt class s l (suc levels) (e .tag .begin - 1) ≡ whole e
+  -- the root of a message that was read is an element
+  pub document-element : (at : ℕ) (e : Element) → documentAt class s l at ≡ whole e → (from : ℕ) × (elementAt class s l (l .levels) from ≡ whole e)
   unfolding documentAt rootAt
-  document-root levels at e is-levels q = go (ltb (l .bytes) (length s)) q
+  document-element at e q = go (ltb (l .bytes) (length s)) q
     where
-      root : (from : ℕ) → rootAt class s l from ≡ whole e → elementAt class s l (suc levels) (e .tag .begin - 1) ≡ whole e
+      root : (from : ℕ) → rootAt class s l from ≡ whole e → (begin : ℕ) × (elementAt class s l (l .levels) begin ≡ whole e)
       root from h =
           let x = then-whole _ (aroundAt class (suc (length s)) s from) e h in
           let y = then-whole _ (elementAt class s l (l .levels) (x .0)) e (x .2) in
           let z = then-whole _ (aroundAt class (suc (length s)) s (y .0 .tag .end)) e (y .2) in
           let w = then-whole _ (endAt s (z .0)) e (z .2) in
-          let reads : elementAt class s l (suc levels) (x .0) ≡ whole e = ap (λ (d : ℕ). elementAt class s l d (x .0)) (sym is-levels) ∙ (y .1 ∙ w .2) in
-          ap (elementAt class s l (suc levels)) (omega (arith, element-stands levels (x .0) e reads .begins)) ∙ reads
+          (x .0, y .1 ∙ w .2)
 
-      go : (t : Bool) → cond t (refused 8 0) (cond (eqb at 0) (declaredOf class s) (whole at) >>= rootAt class s l) ≡ whole e → elementAt class s l (suc levels) (e .tag .begin - 1) ≡ whole e
+      go : (t : Bool) → cond t (refused 8 0) (cond (eqb at 0) (declaredOf class s) (whole at) >>= rootAt class s l) ≡ whole e → (begin : ℕ) × (elementAt class s l (l .levels) begin ≡ whole e)
       go true h = let z : _≡_ {A = ℕ} 0 1 = cc in absurd (omega arith)
       go false h = let x = then-whole (rootAt class s l) (cond (eqb at 0) (declaredOf class s) (whole at)) e h in root (x .0) (x .2)
+
+  -- and what is read again at its place
+  pub document-root : (levels at : ℕ) (e : Element) → l .levels ≡ suc levels → documentAt class s l at ≡ whole e → elementAt class s l (suc levels) (e .tag .begin - 1) ≡ whole e
+  document-root levels at e is-levels q =
+      let x = document-element at e q in
+      let reads : elementAt class s l (suc levels) (x .0) ≡ whole e = ap (λ (d : ℕ). elementAt class s l d (x .0)) (sym is-levels) ∙ x .1 in
+      ap (elementAt class s l (suc levels)) (omega (arith, element-stands levels (x .0) e reads .begins)) ∙ reads

@@ -11,3 +11,5 @@ pub mod Trees
 pub mod Facts
 pub mod Numbers
 pub mod Carried
+pub mod Within
+pub mod Seven
