@@ -77,7 +77,7 @@ module _ (class : ℕ → ℕ) (s : List ℕ) (at : ℕ) where
 
 -- ---- the attributes one by one
 
-either : (a b : Bool) → (a || b) ≡ true → (a ≡ true) ⊎ (b ≡ true)
+pub either : (a b : Bool) → (a || b) ≡ true → (a ≡ true) ⊎ (b ≡ true)
 either true b e = inl refl
 either false b e = inr e
 

@@ -13,3 +13,4 @@ pub mod Numbers
 pub mod Carried
 pub mod Within
 pub mod Seven
+pub mod Unquoted
