@@ -14,3 +14,4 @@ pub mod Carried
 pub mod Within
 pub mod Seven
 pub mod Unquoted
+pub mod Delimited

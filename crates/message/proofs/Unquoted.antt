@@ -33,7 +33,7 @@ module _ (s : List ℕ) (q : ℕ) where
   abbrev pub Free : ℕ → ℕ → Type 0
   Free from to = (i : ℕ) → from ≤ i → i < to → byteAt s i ≡ q → ⊥
 
-  free-none : (at : ℕ) → Free at at
+  pub free-none : (at : ℕ) → Free at at
   free-none at i f t = λ e. omega arith
 
   free-join : (from at to : ℕ) → Free from at → Free at to → Free from to
