@@ -15,3 +15,4 @@ pub mod Within
 pub mod Seven
 pub mod Unquoted
 pub mod Delimited
+pub mod Repeated
