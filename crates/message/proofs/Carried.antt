@@ -4,7 +4,7 @@ use mathlib.Core.Path.{_≡_, refl, sym, _∙_, ap, subst}
 use mathlib.Core.Logic.{_⊎_, ⊎-elim}
 use mathlib.Core.Logic._⊎_.{inl, inr}
 use mathlib.Core.Bool.{Bool, true, false, cond, _||_}
-use mathlib.Core.List.{List, [], _∷_}
+use mathlib.Core.List.{List, _∷_}
 use native.Mathlib.Omega.{arith}
 use lib.ListN.{length}
 use lib.Dec.{ltb, eqb}
@@ -22,7 +22,7 @@ use Rattle.message.specs.Messages.{attributeCalled}
 use Rattle.message.specs.Readable.{AttributeStands}
 use Rattle.message.specs.Seven.{Carries}
 use Rattle.message.specs.Seven.Carries.{this, later}
-use Rattle.message.proofs.Laws.{cond-true, cond-false, has-in, has-byte, has-or, one-has}
+use Rattle.message.proofs.Laws.{cond-true, cond-false, has-byte, one-has}
 use Rattle.message.proofs.Trees.{whole-same}
 use Rattle.message.proofs.Facts.{then-whole}
 
@@ -66,7 +66,8 @@ module _ (class : ℕ → ℕ) (s : List ℕ) (at : ℕ) where
       named : ℕ → Named
       named first = cond (has (is 58) s first) (two-parts first (ends (isName class) s (first + 1))) (one-part first)
 
-      go : (first : ℕ) (t : Bool) → has (is 58) s first ≡ t → cond t (partAt class most s (first + 1) >>= (λ last. whole (two-parts first last))) (whole (one-part first)) ≡ whole n → n ≡ named first
+      go : (first : ℕ) (t : Bool) → has (is 58) s first ≡ t → cond t (partAt class most s (first + 1) >>= (λ last. whole (two-parts first last))) (whole (one-part first)) ≡ whole n
+          → n ≡ named first
       go first true e h =
           let x = then-whole (λ last. whole (two-parts first last)) (partAt class most s (first + 1)) n h in
           sym (whole-same (x .2)) ∙ (ap (two-parts first) (part-ends class s (first + 1) most (x .0) (x .1) .1) ∙ cond-true _ e)
@@ -104,7 +105,8 @@ module _ (s : List ℕ) (l : Limits) where
     pub valued : quotedAt classOf s (name .end) ≡ whole value
     pub further : attributesAt classOf s l fuel (part s (place at) (name .end) ∷ seen) (value .to + 1) ≡ whole stop
 
-  fresh-name : (seen : List (List ℕ)) (at p e : ℕ) → freshAt classOf s l seen at p ≡ whole e → (has (isSpace classOf) s at ≡ true) × ((name : Named) × (nameAt classOf (l .part) s p ≡ whole name) × (e ≡ name .end))
+  fresh-name : (seen : List (List ℕ)) (at p e : ℕ) → freshAt classOf s l seen at p ≡ whole e
+      → (has (isSpace classOf) s at ≡ true) × ((name : Named) × (nameAt classOf (l .part) s p ≡ whole name) × (e ≡ name .end))
   unfolding freshAt
   fresh-name seen at p e q =
       let x = then-whole _ (one (isSpace classOf) s at) e q in
@@ -127,7 +129,8 @@ module _ (s : List ℕ) (l : Limits) where
       another : ℕ → Reading ℕ
       another e = quotedAt classOf s e >>= onward e
 
-      go : (t : Bool) → has endsTag s (place at) ≡ t → cond t (whole (place at)) (freshAt classOf s l seen at (place at) >>= another) ≡ whole stop → (has endsTag s (place at) ≡ true) ⊎ Turn fuel seen at stop
+      go : (t : Bool) → has endsTag s (place at) ≡ t → cond t (whole (place at)) (freshAt classOf s l seen at (place at) >>= another) ≡ whole stop
+          → (has endsTag s (place at) ≡ true) ⊎ Turn fuel seen at stop
       go true e h = inl e
       go false e h =
           let x = then-whole another (freshAt classOf s l seen at (place at)) stop h in
@@ -155,10 +158,15 @@ module _ (s : List ℕ) (l : Limits) where
     ended : {at to : ℕ} → AttributeStands s at to → has endsTag s (place at) ≡ true → ⊥
     ended {at = at} a e = no-name s (place at) e (name-is classOf s (place at) (a .named .0) (a .name) (a .named .1) .0)
 
-    pub called-carries : (fuel : ℕ) (seen : List (List ℕ)) (at stop : ℕ) (v : Quoted) → attributesAt classOf s l fuel seen at ≡ whole stop → attributeCalled classOf l s fuel w at ≡ whole v → Carries s w at v
+    pub called-carries : (fuel : ℕ) (seen : List (List ℕ)) (at stop : ℕ) (v : Quoted) → attributesAt classOf s l fuel seen at ≡ whole stop
+        → attributeCalled classOf l s fuel w at ≡ whole v → Carries s w at v
     unfolding attributesAt
     called-carries zero seen at stop v q h = let z : _≡_ {A = ℕ} 0 1 = cc in absurd (omega arith)
-    called-carries (suc fuel) seen at stop v q h = ⊎-elim past (λ t. go t (called-carries fuel (part s (place at) (t .name .end) ∷ seen) (t .value .to + 1) stop v (t .further)) (sameBytes (part s (place at) (t .name .end)) w) refl (sym (turn-called fuel seen at stop t) ∙ h)) (turn fuel seen at stop q)
+    called-carries (suc fuel) seen at stop v q h =
+        ⊎-elim past
+        (λ t. go t (called-carries fuel (part s (place at) (t .name .end) ∷ seen) (t .value .to + 1) stop v (t .further))
+        (sameBytes (part s (place at) (t .name .end)) w) refl (sym (turn-called fuel seen at stop t) ∙ h))
+        (turn fuel seen at stop q)
       where
         past : has endsTag s (place at) ≡ true → Carries s w at v
         past e = absurd (no-name s (place at) e (called-named fuel at v h))
@@ -175,7 +183,8 @@ module _ (s : List ℕ) (l : Limits) where
         let v : a .value ≡ t .value = whole-same (sym (a .valued) ∙ (ap (λ (m : Named). quotedAt classOf s (m .end)) n ∙ t .valued)) in
         (n, v, sym (a .ends) ∙ ap (λ (u : Quoted). u .to + 1) v)
 
-    pub carries-called : (fuel : ℕ) (seen : List (List ℕ)) (at stop : ℕ) (v : Quoted) → attributesAt classOf s l fuel seen at ≡ whole stop → Carries s w at v → attributeCalled classOf l s fuel w at ≡ whole v
+    pub carries-called : (fuel : ℕ) (seen : List (List ℕ)) (at stop : ℕ) (v : Quoted) → attributesAt classOf s l fuel seen at ≡ whole stop
+        → Carries s w at v → attributeCalled classOf l s fuel w at ≡ whole v
     unfolding attributesAt
     carries-called zero seen at stop v q c = let z : _≡_ {A = ℕ} 0 1 = cc in absurd (omega arith)
     carries-called (suc fuel) seen at stop _ q (this a same) = ⊎-elim (λ e. absurd (ended a e)) go (turn fuel seen at stop q)
@@ -185,10 +194,14 @@ module _ (s : List ℕ) (l : Limits) where
             let x = turn-same a t in
             let e : part s (place at) (t .name .end) ≡ w = ap (λ (n : Named). part s (place at) (n .end)) (sym (x .0)) ∙ same in
             turn-called fuel seen at stop t ∙ (sym (cond-true _ (ap (λ (u : List ℕ). sameBytes u w) e ∙ same-refl w)) ∙ ap whole (sym (x .1)))
-    carries-called (suc fuel) seen at stop v q (later {to = to} a other c) = ⊎-elim (λ e. absurd (ended a e)) (λ t. go t (carries-called fuel (part s (place at) (t .name .end) ∷ seen) (t .value .to + 1) stop v (t .further))) (turn fuel seen at stop q)
+    carries-called (suc fuel) seen at stop v q (later {to = to} a other c) =
+        ⊎-elim (λ e. absurd (ended a e))
+        (λ t. go t (carries-called fuel (part s (place at) (t .name .end) ∷ seen) (t .value .to + 1) stop v (t .further)))
+        (turn fuel seen at stop q)
       where
         go : (t : Turn fuel seen at stop) → (Carries s w (t .value .to + 1) v → attributeCalled classOf l s fuel w (t .value .to + 1) ≡ whole v) → attributeCalled classOf l s (suc fuel) w at ≡ whole v
         go t further =
             let x = turn-same a t in
-            let differs : sameBytes (part s (place at) (t .name .end)) w ≡ false = never _ (λ e. other (ap (λ (n : Named). part s (place at) (n .end)) (x .0) ∙ same-eq (part s (place at) (t .name .end)) w e)) in
+            let named : part s (place at) (a .name .end) ≡ part s (place at) (t .name .end) = ap (λ (n : Named). part s (place at) (n .end)) (x .0) in
+            let differs : sameBytes (part s (place at) (t .name .end)) w ≡ false = never _ (λ e. other (named ∙ same-eq (part s (place at) (t .name .end)) w e)) in
             turn-called fuel seen at stop t ∙ (sym (cond-false _ differs) ∙ further (subst (λ (i : ℕ). Carries s w i v) (x .2) c))

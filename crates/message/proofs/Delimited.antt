@@ -1,8 +1,8 @@
 -- Where values stand (specs/Seven): an attribute's between its quotation marks, an element's between its tags. Assumes nothing.
 use Prim.Native.Nat.{ℕ, zero, suc, _+_, _-_, _≤_, _<_}
-use mathlib.Core.Path.{_≡_, refl, sym, _∙_, ap, subst}
+use mathlib.Core.Path.{_≡_, refl, _∙_, ap, subst}
 use mathlib.Core.Bool.{Bool, true, false, cond}
-use mathlib.Core.List.{List, [], _∷_}
+use mathlib.Core.List.{List, []}
 use native.Mathlib.Omega.{arith}
 use lib.ListN.{length}
 use borrow.Author.Tests.{eqb-true}
@@ -37,7 +37,14 @@ module _ (s : List ℕ) where
       let quote = byteAt s (begin - 1) in
       let x = subst (Every (λ stop. Free s quote begin stop × (has (is quote) s stop ≡ true))) q (free-value s quote mark begin (length s) begin (free-none s quote begin)) in
       let on = past-whole (λ e. e) (length s) (begin - 1) q (past-value classOf s (begin - 1) (length s) quote begin (omega arith)) in
-      record { some = some; order = omega (arith, on .0); within = has-lt (is quote) s stop (x .1); mark = mark; closed = eqb-true (byteAt s stop) quote (has-byte (is quote) s stop (x .1)); inside = x .0 }
+      record {
+        some = some;
+        order = omega (arith, on .0);
+        within = has-lt (is quote) s stop (x .1);
+        mark = mark;
+        closed = eqb-true (byteAt s stop) quote (has-byte (is quote) s stop (x .1));
+        inside = x .0;
+      }
 
   quoted-quotes : (at : ℕ) (v : Quoted) → quotedAt classOf s at ≡ whole v → Quotes s (v .from) (v .to)
   unfolding quotedAt openedAt
@@ -47,7 +54,8 @@ module _ (s : List ℕ) where
       let mark = then-whole (one isQuote s) (equalsAt classOf s at) (x .0) (x .1) in
       let o = one-has isQuote s (mark .0) (x .0) (mark .2) in
       let back : mark .0 ≡ x .0 - 1 = omega (arith, o .1) in
-      subst (λ (u : Quoted). Quotes s (u .from) (u .to)) (whole-same (y .2)) (value-quotes (x .0) (y .0) (omega (arith, o .1)) (subst (λ (i : ℕ). isQuote (byteAt s i) ≡ true) back (has-byte isQuote s (mark .0) (o .0))) (y .1))
+      subst (λ (u : Quoted). Quotes s (u .from) (u .to)) (whole-same (y .2))
+      (value-quotes (x .0) (y .0) (omega (arith, o .1)) (subst (λ (i : ℕ). isQuote (byteAt s i) ≡ true) back (has-byte isQuote s (mark .0) (o .0))) (y .1))
 
   carried-quotes : (w : List ℕ) (at : ℕ) (v : Quoted) → Carries s w at v → Quotes s (v .from) (v .to)
   carried-quotes w at _ (this a same) = quoted-quotes (a .name .end) (a .value) (a .valued)
@@ -75,7 +83,8 @@ module _ (s : List ℕ) where
   text-mark zero at = tt
   text-mark (suc fuel) at =
       let stop = ends (isPlain classOf) s at in
-      cond-cases AtMark (has (is 60) s stop) (λ t. t) (λ t. every-then (λ e. Unit {0}) (λ stop. has (is 60) s stop ≡ true) _ (beyondPlainAt classOf s stop) (anything (beyondPlainAt classOf s stop)) (λ e u. text-mark fuel e))
+      cond-cases AtMark (has (is 60) s stop) (λ t. t) (λ t.
+      every-then (λ e. Unit {0}) (λ stop. has (is 60) s stop ≡ true) _ (beyondPlainAt classOf s stop) (anything (beyondPlainAt classOf s stop)) (λ e u. text-mark fuel e))
 
   free-mark : (fuel at : ℕ) → AtMark (freeAt classOf s fuel at)
   unfolding freeAt
@@ -87,7 +96,7 @@ module _ (s : List ℕ) where
       cond-cases AtMark (has (is 63) s (stop + 1)) (λ u. tt) (λ u. h)))
 
   -- the `>` of a start tag, behind a `/` where it is an empty-element tag
-  pub record TagEnds (st : Start) : Type 0 where
+  record TagEnds (st : Start) : Type 0 where
     pub some : 0 < st .from
     pub closed : byteAt s (st .from - 1) ≡ 62
     pub slash : st .empty ≡ true → byteAt s (st .from - 2) ≡ 47
@@ -132,7 +141,11 @@ module _ (s : List ℕ) where
       pub slash : has (is 47) s (c .to + 1) ≡ true
       pub tag : endTagAt classOf s l (st .begin) (st .name) (c .to + 2) ≡ whole (c .end)
 
-    content-ends : (child : ℕ → Reading Element) → ((at : ℕ) (e : Element) → child at ≡ whole e → at < e .tag .end) → (st : Start) (fuel at : ℕ) (c : Content) → contentAt classOf s l fuel child st at ≡ whole c → ContentEnds st at c
+    -- an element that is read ends past its `<`
+    abbrev Grows : (ℕ → Reading Element) → Type 0
+    Grows child = (at : ℕ) (e : Element) → child at ≡ whole e → at < e .tag .end
+
+    content-ends : (child : ℕ → Reading Element) → Grows child → (st : Start) (fuel at : ℕ) (c : Content) → contentAt classOf s l fuel child st at ≡ whole c → ContentEnds st at c
     unfolding contentAt
     content-ends child grows st zero at c q = let z : _≡_ {A = ℕ} 0 1 = cc in absurd (omega arith)
     content-ends child grows st (suc fuel) at c q =
@@ -143,11 +156,16 @@ module _ (s : List ℕ) where
         nested : Element → Content → Content
         nested e rest = record { inside = more (e .tag) (e .inside) (rest .inside); to = rest .to; end = rest .end }
 
+        nested-ends : (e : Element) (rest : Content) → at ≤ rest .to → ContentEnds st (e .tag .end) rest → whole (nested e rest) ≡ whole c → ContentEnds st at c
+        nested-ends e rest order r h = subst (ContentEnds st at) (whole-same h) (record { order = order; mark = r .mark; slash = r .slash; tag = r .tag })
+
         closed : ℕ → ℕ → Content
         closed stop e = record { inside = none; to = stop; end = e }
 
-        go : ((from : ℕ) (rest : Content) → contentAt classOf s l fuel child st from ≡ whole rest → ContentEnds st from rest) → (stop : ℕ) → has (is 60) s stop ≡ true → at ≤ stop → (t : Bool) → has (is 47) s (stop + 1) ≡ t
-            → cond t (endTagAt classOf s l (st .begin) (st .name) (stop + 2) >>= (λ e. whole (closed stop e))) (child stop >>= (λ e. contentAt classOf s l fuel child st (e .tag .end) >>= (λ rest. whole (nested e rest)))) ≡ whole c
+        go : ((from : ℕ) (rest : Content) → contentAt classOf s l fuel child st from ≡ whole rest → ContentEnds st from rest)
+            → (stop : ℕ) → has (is 60) s stop ≡ true → at ≤ stop → (t : Bool) → has (is 47) s (stop + 1) ≡ t
+            → cond t (endTagAt classOf s l (st .begin) (st .name) (stop + 2) >>= (λ e. whole (closed stop e)))
+            (child stop >>= (λ e. contentAt classOf s l fuel child st (e .tag .end) >>= (λ rest. whole (nested e rest)))) ≡ whole c
             → ContentEnds st at c
         go further stop mark order true slash h =
             let x = then-whole (λ e. whole (closed stop e)) (endTagAt classOf s l (st .begin) (st .name) (stop + 2)) c h in
@@ -156,9 +174,9 @@ module _ (s : List ℕ) where
             let x = then-whole (λ e. contentAt classOf s l fuel child st (e .tag .end) >>= (λ rest. whole (nested e rest))) (child stop) c h in
             let y = then-whole (λ rest. whole (nested (x .0) rest)) (contentAt classOf s l fuel child st (x .0 .tag .end)) c (x .2) in
             let r = further (x .0 .tag .end) (y .0) (y .1) in
-            subst (ContentEnds st at) (whole-same (y .2)) (record { order = omega (arith, grows stop (x .0) (x .1), r .order); mark = r .mark; slash = r .slash; tag = r .tag })
+            nested-ends (x .0) (y .0) (omega (arith, grows stop (x .0) (x .1), r .order)) r (y .2)
 
-    rest-between : (child : ℕ → Reading Element) → ((at : ℕ) (e : Element) → child at ≡ whole e → at < e .tag .end) → (at : ℕ) (st : Start) → startAt classOf s l at ≡ whole st → (e : Element) → restAt classOf s l child st ≡ whole e → Between s (e .tag)
+    rest-between : (child : ℕ → Reading Element) → Grows child → (at : ℕ) (st : Start) → startAt classOf s l at ≡ whole st → (e : Element) → restAt classOf s l child st ≡ whole e → Between s (e .tag)
     unfolding restAt
     rest-between child grows at st started e q = go (st .empty) refl q
       where

@@ -1,7 +1,7 @@
 -- The numbers of refusal of the readers that make no message of the seven: what holds of 8, 9, 10, 11, 12 and 14 holds of all of them. Assumes nothing.
 use Prim.Native.Nat.{ℕ, zero, suc, _+_, _-_, _*_}
-use mathlib.Core.Path.{_≡_, refl, subst}
-use mathlib.Core.Bool.{Bool, cond, _&&_, _||_}
+use mathlib.Core.Path.{_≡_, subst}
+use mathlib.Core.Bool.{Bool, _&&_, _||_}
 use mathlib.Core.List.{List, [], _∷_}
 use native.Mathlib.Omega.{arith}
 use lib.ListN.{length, getD}
@@ -10,7 +10,7 @@ use Rattle.message.specs.Class.{between, isStart, isName, isSpace, isTex
 use Rattle.message.specs.Reading.{Reading, _>>=_, isWhole, is, byteAt, isQuote, has, one, ends, wordAt, blanks, equalsAt, openedAt, closedAt}
 use Rattle.message.specs.Reading.Reading.{whole, refused}
 use Rattle.message.specs.Names.{Named, shortAt, partAt, nameAt}
-use Rattle.message.specs.Characters.{Character, later, secondOfThree, thirdOfThree, secondOfFour, joined, twoAt, threeAt, lastTwoAt, fourAt, longAt, isDigit, digitOf, digitsAt, closes, numberedAt, standsAt, predefinedAt, referenceAt}
+use Rattle.message.specs.Characters.{later, secondOfThree, thirdOfThree, secondOfFour, joined, twoAt, threeAt, lastTwoAt, fourAt, longAt, isDigit, digitOf, digitsAt, closes, numberedAt, standsAt, predefinedAt, referenceAt}
 use Rattle.message.specs.Text.{specialAt, bracketAt, beyondPlainInAt, beyondPlainAt, beyondNoteAt, hyphensAt, textAt, valueAt, commentAt}
 use Rattle.message.specs.Markup.{hyphens, doctype, cdata, version, oneDotZero, encoding, upperUtf8, lowerUtf8, closing, opensAt, utf8At, bangAt, aroundAt, declares, encodingAt, declarationAt}
 use Rattle.message.specs.Limits.{Limits}

@@ -1,17 +1,15 @@
 -- The end tag repeats the start tag's name byte by byte, a name of two parts with its colon. Assumes nothing.
 use Prim.Native.Nat.{ℕ, zero, suc, _+_, _-_, _≤_, _<_}
 use mathlib.Core.Path.{_≡_, refl, sym, _∙_, ap, subst}
-use mathlib.Core.Bool.{Bool, true, false, cond}
+use mathlib.Core.Bool.{true}
 use mathlib.Core.List.{List, [], _∷_, _++_}
 use native.Mathlib.Omega.{arith}
-use native.Mathlib.Decide.{decLt}
 use lib.ListN.{length, getD}
 use lib.Seq.{length-slice}
-use lib.Dec.{eqb}
 use borrow.Author.Tests.{eq-eqb, ne-eqb, eqb-true}
 use Rattle.message.specs.Class.{isName, isSpace}
 use Rattle.message.specs.Reading.{Reading, _>>=_, is, has, one, ends, wordAt, byteAt, blanks}
-use Rattle.message.specs.Reading.Reading.{whole, refused}
+use Rattle.message.specs.Reading.Reading.{whole}
 use Rattle.message.specs.Names.{Named, shortAt, nameAt}
 use Rattle.message.specs.Limits.{Limits}
 use Rattle.message.specs.Elements.{part, endPartAt, endNameAt, endTagAt}
@@ -60,7 +58,8 @@ module _ (class : ℕ → ℕ) (s : List ℕ) (l : Limits) where
   unfolding endNameAt
   end-one-part b e at i q h = end-part (part s b e) at i (cond-true _ (eq-eqb b b refl) ∙ q) h
 
-  end-two-parts : (b first e at i : ℕ) → b ≤ first → first < e → e ≤ length s → has (is 58) s first ≡ true → endNameAt class s l b (record { local = first + 1; end = e }) at ≡ whole i → i ≤ length s → (at ≤ i) × (part s at i ≡ part s b e)
+  end-two-parts : (b first e at i : ℕ) → b ≤ first → first < e → e ≤ length s → has (is 58) s first ≡ true
+      → endNameAt class s l b (record { local = first + 1; end = e }) at ≡ whole i → i ≤ length s → (at ≤ i) × (part s at i ≡ part s b e)
   unfolding endNameAt
   end-two-parts b first e at i after room within colon q h =
       let second : ℕ → Reading ℕ = λ j. one (is 58) s j >>= endPartAt class s l (part s (first + 1) e) in
@@ -72,15 +71,18 @@ module _ (class : ℕ → ℕ) (s : List ℕ) (l : Limits) where
       let back : first + 1 - 1 ≡ first = omega arith in
       let leads : part s at (x .0) ≡ part s b first = lead .1 ∙ ap (part s b) back in
       let rests : part s (x .0 + 1) i ≡ part s (first + 1) e = ap (λ (j : ℕ). part s j i) (sym (o .1)) ∙ rest .1 in
-      let colons : byteAt s (x .0) ≡ byteAt s first = eqb-true (byteAt s (x .0)) 58 (has-byte (is 58) s (x .0) (o .0)) ∙ sym (eqb-true (byteAt s first) 58 (has-byte (is 58) s first colon)) in
-      (omega (arith, lead .0, rest .0, o .1),
-      part-split s (x .0 - at) at (x .0) i (omega (arith, lead .0)) (omega (arith, rest .0, o .1)) h
-      ∙ (joined leads colons rests ∙ sym (part-split s (first - b) b first e (omega arith) room within)))
+      let colons : byteAt s (x .0) ≡ byteAt s first =
+      eqb-true (byteAt s (x .0)) 58 (has-byte (is 58) s (x .0) (o .0)) ∙ sym (eqb-true (byteAt s first) 58 (has-byte (is 58) s first colon)) in (
+        omega (arith, lead .0, rest .0, o .1),
+        part-split s (x .0 - at) at (x .0) i (omega (arith, lead .0)) (omega (arith, rest .0, o .1)) h
+            ∙ (joined leads colons rests ∙ sym (part-split s (first - b) b first e (omega arith) room within)),
+      )
     where
       joined : {u u′ v v′ : List ℕ} {x x′ : ℕ} → u ≡ u′ → x ≡ x′ → v ≡ v′ → u ++ (x ∷ v) ≡ u′ ++ (x′ ∷ v′)
       joined p q r = rw (p, q, r)
 
-  end-name : (b : ℕ) (name : Named) → nameAt class (l .part) s b ≡ whole name → name .end ≤ length s → (at i : ℕ) → endNameAt class s l b name at ≡ whole i → i ≤ length s → (at ≤ i) × (part s at i ≡ part s b (name .end))
+  end-name : (b : ℕ) (name : Named) → nameAt class (l .part) s b ≡ whole name → name .end ≤ length s → (at i : ℕ)
+      → endNameAt class s l b name at ≡ whole i → i ≤ length s → (at ≤ i) × (part s at i ≡ part s b (name .end))
   end-name b name named within at i q h =
       let first = ends (isName class) s b in
       let Repeats : Named → Type 0 = λ n. n .end ≤ length s → endNameAt class s l b n at ≡ whole i → (at ≤ i) × (part s at i ≡ part s b (n .end)) in
@@ -89,7 +91,8 @@ module _ (class : ℕ → ℕ) (s : List ℕ) (l : Limits) where
       (λ t l′ q′. end-one-part b first at i q′ h)) within q
 
   -- an end tag begins with the start tag's name
-  pub end-tag : (b : ℕ) (name : Named) → 0 < b → nameAt class (l .part) s b ≡ whole name → (at e : ℕ) → endTagAt class s l b name at ≡ whole e → part s at (at + (name .end - b)) ≡ part s b (name .end)
+  pub end-tag : (b : ℕ) (name : Named) → 0 < b → nameAt class (l .part) s b ≡ whole name → (at e : ℕ) → endTagAt class s l b name at ≡ whole e
+      → part s at (at + (name .end - b)) ≡ part s b (name .end)
   unfolding endTagAt
   end-tag b name some named at e q =
       let x = then-whole _ (endNameAt class s l b name at) e q in

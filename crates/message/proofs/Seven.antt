@@ -1,5 +1,5 @@
 -- The seven (specs/Seven): a message that is read is one of them, and 13 is the answer to what is none of them. Assumes nothing.
-use Prim.Native.Nat.{ℕ, _-_}
+use Prim.Native.Nat.{ℕ}
 use mathlib.Core.Path.{_≡_, refl, sym, _∙_, ap, subst}
 use mathlib.Core.Bool.{Bool, true, false, cond}
 use mathlib.Core.List.{List, []}
@@ -115,7 +115,8 @@ module _ (s : List ℕ) where
   first-called w none e q = unread q
   first-called w (more t inner others) e q = go (first-called w others e) (called s w t) refl q
     where
-      go : (firstCalled s w others ≡ whole e → First s w others e) → (b : Bool) → called s w t ≡ b → cond b (whole (record { tag = t; inside = inner })) (firstCalled s w others) ≡ whole e → First s w (more t inner others) e
+      go : (firstCalled s w others ≡ whole e → First s w others e) → (b : Bool) → called s w t ≡ b
+          → cond b (whole (record { tag = t; inside = inner })) (firstCalled s w others) ≡ whole e → First s w (more t inner others) e
       go further true h q = subst (First s w (more t inner others)) (whole-same q) (this (same-eq (part s (t .name .local) (t .name .end)) w h))
       go further false h q = later (λ c. true-false (called-true w t c) h) (further q)
 
@@ -148,7 +149,8 @@ module _ (s : List ℕ) (l : Limits) where
         go (whole v) q = there v (value-there v q)
         go (refused n p) q = absent (λ v c. unread (sym q ∙ there-value v c))
 
-    needed-there : {m : Message} (next : Found → Reading Message) → (needed (attributeOf classOf l s w tag) >>= next) ≡ whole m → (v : Quoted) × HasAttribute s w tag v × (next (found (v .from) (v .to)) ≡ whole m)
+    needed-there : {m : Message} (next : Found → Reading Message) → (needed (attributeOf classOf l s w tag) >>= next) ≡ whole m
+        → (v : Quoted) × HasAttribute s w tag v × (next (found (v .from) (v .to)) ≡ whole m)
     needed-there {m = m} next h = go value refl h
       where
         go : (r : Reading Quoted) → value ≡ r → (needed (foundIn r) >>= next) ≡ whole m → (v : Quoted) × HasAttribute s w tag v × (next (found (v .from) (v .to)) ≡ whole m)
@@ -190,7 +192,9 @@ module _ (s : List ℕ) (l : Limits) where
       childs w e c = attributed classOf s l e (subst (EachRead classOf s l) (c .0) (inside-read classOf s l root was) .0)
 
       rest-one : (m : Message) → rest ≡ whole m → OneOfSeven s root m
-      rest-one m q = let x = then-whole (messageOfKind classOf l s root) (kindOf (part s (root .tag .name .local) (root .tag .name .end))) m q in go (x .0) (kind-word _ (x .0) (x .1)) (x .2)
+      rest-one m q =
+          let x = then-whole (messageOfKind classOf l s root) (kindOf (part s (root .tag .name .local) (root .tag .name .end))) m q in
+          go (x .0) (kind-word _ (x .0) (x .1)) (x .2)
         where
           go : (k : Kind) → Called s (kindWord k) (root .tag) → messageOfKind classOf l s root k ≡ whole m → OneOfSeven s root m
           go kinds.SessionOpenRequest c h = subst (OneOfSeven s root) (whole-same h) (open-request c)
@@ -208,7 +212,9 @@ module _ (s : List ℕ) (l : Limits) where
               let t = then-whole _ (firstCalled s words.advisoryType (e .0 .inside)) m (e .2) in
               let only = only-child s words.advisory (root .inside) (e .0) (e .1) in
               subst (OneOfSeven s root) (whole-same (t .2))
-              (advisory (numberValue classOf s (attributeOf classOf l s words.inRelationTo (e .0 .tag))) (typeValue classOf s (t .0)) (e .0) (t .0) c only (shows-number words.inRelationTo (e .0 .tag) (childs words.advisory (e .0) only)) (first-called s words.advisoryType (e .0 .inside) (t .0) (t .1)) refl refl refl)
+              (advisory (numberValue classOf s (attributeOf classOf l s words.inRelationTo (e .0 .tag))) (typeValue classOf s (t .0)) (e .0) (t .0) c only
+              (shows-number words.inRelationTo (e .0 .tag) (childs words.advisory (e .0) only))
+              (first-called s words.advisoryType (e .0 .inside) (t .0) (t .1)) refl refl refl)
           go kinds.Request c h =
               let e = then-whole _ (onlyChild s words.queryRequest (root .inside)) m h in
               let only = only-child s words.queryRequest (root .inside) (e .0) (e .1) in
@@ -217,7 +223,9 @@ module _ (s : List ℕ) (l : Limits) where
           go kinds.Response c h =
               let e = then-whole _ (onlyChild s words.queryResponse (root .inside)) m h in
               let only = only-child s words.queryResponse (root .inside) (e .0) (e .1) in
-              subst (OneOfSeven s root) (whole-same (e .2)) (response (numberValue classOf s (attributeOf classOf l s words.inResponseTo (e .0 .tag))) (e .0) c only (shows-number words.inResponseTo (e .0 .tag) (childs words.queryResponse (e .0) only)))
+              subst (OneOfSeven s root) (whole-same (e .2))
+              (response (numberValue classOf s (attributeOf classOf l s words.inResponseTo (e .0 .tag))) (e .0) c only
+              (shows-number words.inResponseTo (e .0 .tag) (childs words.queryResponse (e .0) only)))
 
       one-rest : (m : Message) → OneOfSeven s root m → isWhole rest ≡ true
       one-rest _ (open-request c) = begun kinds.SessionOpenRequest c refl
@@ -247,6 +255,10 @@ none-is-thirteen s l root q none-is = go (rest s l root) refl (decided s l root)
     go _ e (read m) = absurd (none-is m (rest-one s l root (root-read classOf s l 0 root q) m e))
     go _ e thirteen = message-is s l root q ∙ e
 
+-- a number of refusal that is not 13
+abbrev Other : ℕ → Type 0
+Other n = n ≡ 13 → ⊥
+
 pub thirteen-is-none : ThirteenIsNone
 unfolding messageAt
 thirteen-is-none s l p q = go (documentAt classOf s l 0) refl
@@ -262,4 +274,4 @@ thirteen-is-none s l p q = go (documentAt classOf s l 0) refl
     go (refused n p′) e =
         let h : refused n p′ ≡ refused 13 p = sym (ap (λ (d : Reading Element). d >>= (λ root. rest s l root)) e) ∙ q in
         let z : n ≡ 13 = cc in
-        absurd (refuses-number {P = λ n. n ≡ 13 → ⊥} n p′ (told-document (λ n. n ≡ 13 → ⊥) (λ z. omega arith) s classOf (λ z. omega arith) l (λ z. omega arith) (λ z. omega arith) (λ z. omega arith) (λ z. omega arith) 0) e z)
+        absurd (refuses-number {P = Other} n p′ (told-document Other (λ z. omega arith) s classOf (λ z. omega arith) l (λ z. omega arith) (λ z. omega arith) (λ z. omega arith) (λ z. omega arith) 0) e z)

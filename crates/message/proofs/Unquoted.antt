@@ -1,8 +1,8 @@
 -- A value holds no mark of the kind that quotes it: neither its plain bytes, nor references, nor characters of more than one byte do. Assumes nothing.
-use Prim.Native.Nat.{ℕ, zero, suc, _+_, _-_, _*_, _<_, _≤_}
+use Prim.Native.Nat.{ℕ, zero, suc, _+_, _*_, _<_, _≤_}
 use mathlib.Core.Path.{_≡_, refl, sym, _∙_, ap, subst}
-use mathlib.Core.Logic.{_⊎_, ⊎-elim}
-use mathlib.Core.Bool.{Bool, true, false, cond, _&&_, _||_}
+use mathlib.Core.Logic.{⊎-elim}
+use mathlib.Core.Bool.{Bool, true, false, cond, _||_}
 use mathlib.Core.List.{List, [], _∷_}
 use native.Mathlib.Omega.{arith}
 use native.Mathlib.Decide.{decLt}
@@ -12,8 +12,7 @@ use borrow.Author.Tests.{eqb-true, eq-eqb}
 use Rattle.laws.proofs.Tests.{true-false}
 use Rattle.message.specs.Class.{classOf, between, isText, isPlain}
 use Rattle.message.specs.Reading.{Reading, _>>=_, is, byteAt, isQuote, has, one, ends, wordAt}
-use Rattle.message.specs.Reading.Reading.{whole, refused}
-use Rattle.message.specs.Characters.{Character, later, secondOfThree, thirdOfThree, secondOfFour, joined, twoAt, threeAt, lastTwoAt, fourAt, longAt, isDigit, digitOf, digitsAt, closes, numberedAt, standsAt, predefinedAt, referenceAt}
+use Rattle.message.specs.Characters.{Character, later, secondOfThree, thirdOfThree, secondOfFour, twoAt, threeAt, lastTwoAt, fourAt, longAt, isDigit, digitOf, digitsAt, closes, numberedAt, standsAt, predefinedAt, referenceAt}
 use Rattle.message.specs.Text.{specialAt, beyondPlainInAt, valueAt}
 use Rattle.message.proofs.Laws.{cond-cases, has-in, has-lt, has-byte, ends-more, ends-stop, ends-out}
 use Rattle.message.proofs.Progress.{Every, every-then}
@@ -37,7 +36,7 @@ module _ (s : List ℕ) (q : ℕ) where
   free-none at i f t = λ e. omega arith
 
   free-join : (from at to : ℕ) → Free from at → Free at to → Free from to
-  free-join from at to f g i a b e = elim (decLt i at) [ | yes h ↦ f i a h e | no h ↦ g i (omega arith) b e ]
+  free-join from at to f g i a b e = elim (decLt i at) [ yes h ↦ f i a h e | no h ↦ g i (omega arith) b e ]
 
   -- a byte that passes a test which q fails
   free-on : (test : ℕ → Bool) → test q ≡ false → (from at : ℕ) → Free from at → has test s at ≡ true → Free from (at + 1)
@@ -147,7 +146,7 @@ module _ (s : List ℕ) (q : ℕ) where
     free-beyond : (at : ℕ) → Free from at → has (is q) s at ≡ false → ClearPlace (beyondPlainInAt classOf s at)
     unfolding beyondPlainInAt specialAt
     free-beyond at f other =
-        cond-cases ClearPlace (has (isText classOf) s at) (λ t i a b e. elim (decLt i at) [ | yes h ↦ f i a h e | no h ↦ differs (has-lt (isText classOf) s at t) i (omega arith) e ]) (λ t.
+        cond-cases ClearPlace (has (isText classOf) s at) (λ t i a b e. elim (decLt i at) [ yes h ↦ f i a h e | no h ↦ differs (has-lt (isText classOf) s at t) i (omega arith) e ]) (λ t.
         every-then (λ c. Free from (c .end)) (Free from) _ (cond (has (is 38) s at) (referenceAt s at) (longAt s at)) (cond-cases Clear (has (is 38) s at) (λ u. free-reference at f) (λ u. free-long at f)) (λ c g. g))
       where
         differs : at < length s → (i : ℕ) → i ≡ at → byteAt s i ≡ q → ⊥
