@@ -5,6 +5,8 @@
 -- with `Letters` about texts and `Decimals` about numbers in them.
 -- `Sound` is what holds in every state of the machine of `Automaton`, `Inverse` what a comment and end tags behind it say of a state, and `Alive` that the machine went through all
 -- that is before it.
+-- `Seven` and `Delimited` prove the promises of specs/Seven: `Numbers` tells the numbers of refusal, `Within` the elements of a message, `Carried` what their start tags
+-- carry, `Unquoted` what values hold, and `Repeated` that end tags repeat names.
 pub mod Laws
 pub mod Digits
 pub mod Parts
@@ -38,3 +40,10 @@ pub mod Endings
 pub mod Ways
 pub mod Past
 pub mod Openings
+pub mod Numbers
+pub mod Carried
+pub mod Within
+pub mod Seven
+pub mod Unquoted
+pub mod Delimited
+pub mod Repeated

@@ -81,7 +81,7 @@ module _ (class : ℕ → ℕ) (s : List ℕ) (k : ℕ) where
   unfolding openedAt
   past-opened at h = past-then place place (length s) k _ (equalsAt class s at) (past-equals at h) (λ mark p q. past-one s k isQuote mark (omega arith))
 
-  past-value : (fuel quote at : ℕ) → k < at → Behind place (valueAt class fuel quote s at)
+  pub past-value : (fuel quote at : ℕ) → k < at → Behind place (valueAt class fuel quote s at)
   unfolding valueAt
   past-value zero quote at h = tt
   past-value (suc fuel) quote at h =
