@@ -23,17 +23,9 @@ use Rattle.message.proofs.Automaton.{State, ground, inside, inTag, slas
 use Rattle.message.proofs.Dues.{long, due, At}
 use Rattle.message.proofs.Going.{MarkedAt, Crowd, Roomy, Stuck, crowded, Outcome, outcome-then, outcome-as, outcome-one, at-has, at-ends}
 use Rattle.message.proofs.Acting.{ends-fails, fails-byte, stuck-here, Acts, acts-has, acts-stuck, acts-one, acts-as, acts-at, acts-blanks}
+use Rattle.message.proofs.GoingQuotes.{Quoting, going-opened}
 use Rattle.message.proofs.GoingText.{going-value}
 use Rattle.message.proofs.GoingNames.{colon-no-name, part-one, Naming, Before, NameRead, NameBefore, going-name}
-
--- a quotation mark is no white space
-quote-solid : (x : ℕ) → isQuote x ≡ true → isSpace classOf x ≡ false
-unfolding classOf
-quote-solid x h = go (eqb x 34) refl
-  where
-    go : (t : Bool) → eqb x 34 ≡ t → isSpace classOf x ≡ false
-    go true e = rw (eqb-true x 34 e)
-    go false e = rw (eqb-true x 39 (or-false _ e ∙ h))
 
 or-both : (t u : Bool) → (t || u) ≡ false → (t ≡ false) × (u ≡ false)
 or-both true u e = absurd (true≢false e)
@@ -63,43 +55,19 @@ module _ (l : Limits) (s : List ℕ) where
   module _ (n : List ℕ) (o : List (List ℕ)) where
     -- ---- `=` and a value, after the name a
 
+    abbrev quoting : List (List ℕ) → Quoting l s
+    quoting seen = record { state = quote n seen o; next = λ q. value q n seen o; does = λ x. refl; more = refl; free = λ i. refl }
+
     -- what the machine does there
     abbrev awaits : List (List ℕ) → ℕ → Next
     awaits seen = stepBlanks (exact 61) solid-equals [] (quote n seen o)
 
-    going-equals : (seen : List (List ℕ)) (i : ℕ) → Acts l s (awaits seen) i → Outcome l s (λ mark. At l s (quote n seen o) mark × (has (isSpace classOf) s mark ≡ false)) (equalsAt classOf s i)
-    unfolding equalsAt
-    going-equals seen i acts =
-        outcome-then l s (λ e. At l s (quote n seen o) e × (e ≡ p + 1)) _ _ (one (is 61) s p)
-        (acts-one l s there (quote n seen o) (is 61) (λ h. rw (solid (has-lt (is 61) s p h), has-byte (is 61) s p h)) (λ within h. rw (solid within, fails-byte (is 61) s p within h)))
-        (λ e q h. (at-ends l s (isSpace classOf) (λ j t. refl) (λ x t. rw t) e (h .0), ends-fails (isSpace classOf) s e))
-      where
-        p : ℕ
-        p = ends (isSpace classOf) s i
-
-        there : Acts l s (awaits seen) p
-        there = acts-blanks l s (awaits seen) (equals (quote n seen o)) i acts (λ x t. rw t) (λ x. refl) refl (λ j. refl)
-
-        solid : p < length s → isSpace classOf (byteAt s p) ≡ false
-        solid within = fails-byte (isSpace classOf) s p within (ends-fails (isSpace classOf) s i)
-
-    going-opened : (seen : List (List ℕ)) (i : ℕ) → Acts l s (awaits seen) i → Outcome l s (λ b. At l s (value (byteAt s (b - 1)) n seen o) b × (isQuote (byteAt s (b - 1)) ≡ true)) (openedAt classOf s i)
-    unfolding openedAt
-    going-opened seen i acts =
-        outcome-then l s _ _ _ (equalsAt classOf s i) (going-equals seen i acts) (λ mark q here.
-        outcome-as l s (λ e. At l s (value (byteAt s mark) n seen o) e × (e ≡ mark + 1)) _ (one isQuote s mark)
-        (outcome-one l s (value (byteAt s mark) n seen o) isQuote mark (here .0) refl (λ h. refl) (λ h. rw (quote-solid (byteAt s mark) (has-byte isQuote s mark h), has-byte isQuote s mark h))
-        (λ within h. rw (fails-byte (isSpace classOf) s mark within (here .1), fails-byte isQuote s mark within h)))
-        (λ e r h.
-        let back : e - 1 ≡ mark = omega (arith, h .1) in
-        (subst (λ (m : ℕ). At l s (value (byteAt s m) n seen o) e) (sym back) (h .0), ap (λ (m : ℕ). isQuote (byteAt s m)) back ∙ has-byte isQuote s mark (one-has isQuote s mark e r .0))))
-
     pub going-quoted : (seen : List (List ℕ)) (i : ℕ) → Acts l s (awaits seen) i → Outcome l s (λ v. At l s (inTag false n seen o) (v .to + 1)) (quotedAt classOf s i)
     unfolding quotedAt
     going-quoted seen i acts =
-        outcome-then l s _ (λ v. At l s (inTag false n seen o) (v .to + 1)) _ (openedAt classOf s i) (going-opened seen i acts) (λ b q at-b.
+        outcome-then l s _ (λ v. At l s (inTag false n seen o) (v .to + 1)) _ (openedAt classOf s i) (going-opened l s (quoting seen) i acts) (λ b q at-b.
         outcome-then l s _ (λ v. At l s (inTag false n seen o) (v .to + 1)) _ (valueAt classOf (length s) (byteAt s (b - 1)) s b)
-        (going-value l s (byteAt s (b - 1)) (at-b .1) n seen o (length s) b (omega arith) (at-b .0))
+        (going-value l s (byteAt s (b - 1)) (at-b .mark) n seen o (length s) b (omega arith) (at-b .here))
         (λ e r at-e. at-has l s (is (byteAt s (b - 1))) e (at-e .0) (at-e .1) refl (rw (has-byte (is (byteAt s (b - 1))) s e (at-e .1)))))
 
     -- ---- the name of one more

@@ -32,6 +32,8 @@ pub mod Decimals
 pub mod Meanings
 pub mod GoingCharacters
 pub mod GoingText
+pub mod GoingQuotes
+pub mod GoingMarkup
 pub mod GoingEndTags
 pub mod Sound
 pub mod Inverse
