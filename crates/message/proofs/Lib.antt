@@ -34,6 +34,7 @@ pub mod GoingCharacters
 pub mod GoingText
 pub mod GoingQuotes
 pub mod GoingMarkup
+pub mod GoingDeclaration
 pub mod GoingEndTags
 pub mod Sound
 pub mod Inverse
