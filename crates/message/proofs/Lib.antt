@@ -35,6 +35,7 @@ pub mod GoingText
 pub mod GoingQuotes
 pub mod GoingMarkup
 pub mod GoingDeclaration
+pub mod GoingStarts
 pub mod GoingEndTags
 pub mod Sound
 pub mod Inverse
