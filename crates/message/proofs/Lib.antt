@@ -37,6 +37,7 @@ pub mod GoingMarkup
 pub mod GoingDeclaration
 pub mod GoingStarts
 pub mod GoingEndTags
+pub mod GoingElements
 pub mod Sound
 pub mod Inverse
 pub mod Alive
