@@ -8,7 +8,7 @@ use native.Mathlib.Decide.{decLt}
 use native.Mathlib.Omega.{arith}
 use lib.ListN.{length}
 use lib.Dec.{ltb}
-use borrow.Author.Tests.{ltb-true}
+use borrow.Author.Tests.{le-leb, ltb-true}
 use Rattle.message.specs.Reading.{byteAt}
 use Rattle.message.specs.Limits.{Limits}
 use Rattle.message.proofs.Laws.{and-true, or-true, both-first, both-second}
@@ -57,10 +57,10 @@ module _ (l : Limits) (s : List ℕ) where
   no-cause : (n i : ℕ) (st next : State) → Cause l s st i n → i < length s → due l s st i ≡ false → step st (byteAt s i) ≡ goes next → ⊥
   no-cause n i st next (dies inside e) less free q = let z : dead ≡ goes next = sym e ∙ q in let y : _≡_ {A = ℕ} 0 1 = cc in absurd (omega arith)
   no-cause n i st next (cut out e) less free q = absurd (omega arith)
-  no-cause n i st next (deep g same h d) less free q =
+  no-cause n i st next (deep g same h d levels) less free q =
       true≢false (sym (rw d (or-yes (opening l s g i))) ∙ and-true _ h ∙ ap (λ (x : State). due l s x i) (sym same) ∙ free)
-  no-cause n i st next (crowded m seen o same h d room) less free q =
-      true≢false (or-true (long l s i) d ∙ and-true _ h ∙ ap (λ (x : State). due l s x i) (sym same) ∙ free)
+  no-cause n i st next (crowded m seen o same h full room) less free q =
+      true≢false (or-true (long l s i) (le-leb (l .attributes) (length seen) (omega arith)) ∙ and-true _ h ∙ ap (λ (x : State). due l s x i) (sym same) ∙ free)
   no-cause n i st next (opens g same h d) less free q =
       true≢false (or-true (tooDeep l s g i) d ∙ and-true _ h ∙ ap (λ (x : State). due l s x i) (sym same) ∙ free)
   no-cause n i st next (longs d long-there onward e room part) less free q = true≢false (sym d ∙ free)

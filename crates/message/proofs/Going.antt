@@ -19,7 +19,7 @@ use Rattle.message.specs.Limits.{Limits}
 use Rattle.message.specs.Readable.{TagStands, PartStands}
 use Rattle.message.proofs.Laws.{has-in, has-out, has-lt, has-byte, one-yes, one-no, ends-more, ends-stop, both-first, both-second}
 use Rattle.message.proofs.Automaton.{Test, exact, exactly, Ground, State, ground, expect, inTag, Next, dead, goes, step, expecting}
-use Rattle.message.proofs.Dues.{mayEnd, opening, tooDeep, long, due, further, stateAt, At}
+use Rattle.message.proofs.Dues.{mayEnd, depth, opening, tooDeep, long, due, further, stateAt, At}
 
 module _ (l : Limits) (s : List ℕ) where
   -- ---- why the machine does not go on
@@ -49,9 +49,9 @@ module _ (l : Limits) (s : List ℕ) where
   pub data Cause (st : State) (p : ℕ) : ℕ → Type 0 where
     dies : p < length s → step st (byteAt s p) ≡ dead → Cause st p 9
     cut : length s ≤ p → mayEnd st ≡ false → Cause st p 9
-    deep : (g : Ground) → st ≡ ground g → has (is 60) s p ≡ true → tooDeep l s g p ≡ true → Cause st p 10
+    deep : (g : Ground) → st ≡ ground g → has (is 60) s p ≡ true → tooDeep l s g p ≡ true → depth g ≡ l .levels → Cause st p 10
     crowded : (n : List ℕ) (seen o : List (List ℕ)) → st ≡ inTag true n seen o → has (isStart classOf) s p ≡ true
-        → leb (l .attributes) (length seen) ≡ true → Crowd (length seen) p → Cause st p 11
+        → length seen ≡ l .attributes → Crowd (length seen) p → Cause st p 11
     opens : (g : Ground) → st ≡ ground g → has (is 60) s p ≡ true → opening l s g p ≡ true → Cause st p 12
     longs : due l s st p ≡ true → long l s p ≡ true → (next : State) → step st (byteAt s p) ≡ goes next → Roomy st → Part p → Cause st p 14
 

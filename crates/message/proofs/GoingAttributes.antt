@@ -91,6 +91,7 @@ module _ (l : Limits) (s : List ℕ) where
       pub tag : ℕ
       pub marked : MarkedAt l s tag
       pub stands : TagStands s tag (length seen) at
+      pub few : length seen ≤ l .attributes
 
     module _ (seen : List (List ℕ)) (at : ℕ) (tagged : Tagged seen at) where
       abbrev p : ℕ
@@ -148,15 +149,16 @@ module _ (l : Limits) (s : List ℕ) where
           pub named : nameAt classOf (l .part) s p ≡ whole name
           pub ends-there : name .end ≡ e
           pub acts : Acts l s (awaits (part s p e ∷ seen)) e
+          pub room : length seen < l .attributes
 
         behind-does : (name : Named) (read : NameRead l s (naming seen) p name) → name .end < length s
             → step (attribute (read .inSecond) (part s p (name .end)) n seen o) (byteAt s (name .end)) ≡ cond (isKnown (part s p (name .end)) seen) dead (awaits (part s p (name .end) ∷ seen) (byteAt s (name .end)))
         behind-does name read within =
             rw (fails-byte (isName classOf) s (name .end) within (read .ended), ap (λ (t : Bool). t && not (read .inSecond)) (sym (has-in (is 58) s (name .end) within)) ∙ read .undivided)
 
-        going-fresh-name : has (isSpace classOf) s at ≡ true → (name : Named) → nameAt classOf (l .part) s p ≡ whole name → NameRead l s (naming seen) p name
+        going-fresh-name : has (isSpace classOf) s at ≡ true → length seen < l .attributes → (name : Named) → nameAt classOf (l .part) s p ≡ whole name → NameRead l s (naming seen) p name
             → Outcome l s Fresh (cond (isKnown (part s p (name .end)) seen) (refused 9 (name .end)) (whole (name .end)))
-        going-fresh-name h name q read =
+        going-fresh-name h free name q read =
             cond-cases (Outcome l s Fresh) (isKnown (part s p (name .end)) seen)
             (λ t. stuck-here l s (read .here) refl (λ within. behind-does name read within ∙ rw t))
             (λ t. record {
@@ -165,6 +167,7 @@ module _ (l : Limits) (s : List ℕ) where
               named = q;
               ends-there = refl;
               acts = acts-as l s (acts-at l s _ (name .end) (read .here) refl refl) (awaits (part s p (name .end) ∷ seen)) (λ within. behind-does name read within ∙ rw t);
+              room = free;
             })
 
         going-fresh : Outcome l s Fresh (freshAt classOf s l seen at p)
@@ -177,9 +180,9 @@ module _ (l : Limits) (s : List ℕ) where
             room : has (isSpace classOf) s at ≡ true → has (isStart classOf) s p ≡ true → (t : Bool) → ltb (length seen) (l .attributes) ≡ t → Outcome l s Fresh (cond t (whole p) (refused 11 p) >>= named-next)
             room h st true e =
                 outcome-then l s (NameRead l s (naming seen) p) Fresh _ (nameAt classOf (l .part) s p) (going-name l s (naming seen) p (before h (lt-leb (l .attributes) (length seen) (ltb-true (length seen) (l .attributes) e))))
-                (λ name q read. going-fresh-name h name q read)
+                (λ name q read. going-fresh-name h (ltb-true (length seen) (l .attributes) e) name q read)
             room h st false e =
-                (inTag true n seen o, spaced h, crowded n seen o refl st (le-leb (l .attributes) (length seen) (ltb-false (length seen) (l .attributes) e)) (crowd h))
+                (inTag true n seen o, spaced h, crowded n seen o refl st (omega (arith, tagged .few, ltb-false (length seen) (l .attributes) e)) (crowd h))
 
             start : has (isSpace classOf) s at ≡ true → (t : Bool) → has (isStart classOf) s p ≡ t → Outcome l s Fresh (one (isStart classOf) s p >>= (λ begin. cond (ltb (length seen) (l .attributes)) (whole p) (refused 11 p) >>= named-next))
             start h true e = rw (one-yes (isStart classOf) s p e) (room h e (ltb (length seen) (l .attributes)) refl)
@@ -238,6 +241,7 @@ module _ (l : Limits) (s : List ℕ) where
             ends = refl;
           });
         };
+        few = omega (arith, fresh .room);
       }
 
       further-on : (e : ℕ) (v : Quoted) → has (isSpace classOf) s at ≡ true → freshAt classOf s l seen at (ends (isSpace classOf) s at) ≡ whole e → quotedAt classOf s e ≡ whole v → at < v .to

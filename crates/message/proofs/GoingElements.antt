@@ -143,7 +143,7 @@ module _ (l : Limits) (s : List ℕ) where
 
   going-element : (d : ℕ) → Child (elementAt classOf s l d) d
   unfolding elementAt
-  going-element zero g i deep-enough place = going-deep l s g i place (λ e. At l s (after (names g)) (e .tag .end)) (le-leb (l .levels) (depth g) (omega arith))
+  going-element zero g i deep-enough place = going-deep l s g i place (λ e. At l s (after (names g)) (e .tag .end)) (omega arith)
   going-element (suc d) g i deep-enough place =
       outcome-then l s _ _ _ (startAt classOf s l i) (going-start l s g i place (lt-leb (l .levels) (depth g) (omega arith))) (λ st q started.
       going-rest d (going-element d) g i deep-enough st q started)

@@ -6,6 +6,7 @@ use mathlib.Core.List.{List, [], _∷_}
 use native.Mathlib.Omega.{arith}
 use lib.ListN.{length}
 use lib.Dec.{leb, eqb}
+use borrow.Author.Tests.{le-leb}
 use Rattle.message.specs.Class.{classOf, isStart, isName}
 use Rattle.message.specs.Reading.{Reading, _>>=_, is, byteAt, has, one}
 use Rattle.message.specs.Reading.Reading.{whole, refused}
@@ -76,12 +77,12 @@ module _ (l : Limits) (s : List ℕ) where
 
     -- ---- at the last level
 
-    pub going-deep : (P : Element → Type 0) → leb (l .levels) (depth g) ≡ true → Outcome l s P (tooDeepAt classOf s i)
+    pub going-deep : (P : Element → Type 0) → depth g ≡ l .levels → Outcome l s P (tooDeepAt classOf s i)
     unfolding tooDeepAt
     going-deep P full = go (has (is 60) s i) refl
       where
         start : has (is 60) s i ≡ true → (t : Bool) → has (isStart classOf) s (i + 1) ≡ t → Outcome l s P (one (isStart classOf) s (i + 1) >>= (λ _. refused 10 i))
-        start tagged true h = rw (one-yes (isStart classOf) s (i + 1) h) (ground g, place .here, deep g refl tagged (rw (full, place .front, h)))
+        start tagged true h = rw (one-yes (isStart classOf) s (i + 1) h) (ground g, place .here, deep g refl tagged (rw (le-leb (l .levels) (depth g) (omega arith), place .front, h)) full)
         start tagged false h =
             rw (one-no (isStart classOf) s (i + 1) h)
             (stuck-here l s (at-opened tagged (rw h (and-none (leb (l .levels) (depth g) && not (isBehind g))))) refl (λ within. opens-name tagged within ∙ rw (fails-byte (isStart classOf) s (i + 1) within h)))
@@ -132,6 +133,7 @@ module _ (l : Limits) (s : List ℕ) where
         tag = i;
         marked = (g, place .here);
         stands = record { opens = tagged; name = n; named = (l .part, q); attributes = refl };
+        few = omega arith;
       }
 
       going-start-end : (n : Named) (p : ℕ) → EndsAt l s (part s (i + 1) (n .end)) (names g) p → Outcome l s (Started g i) (startEndAt s (i + 1) n p)

@@ -38,6 +38,7 @@ pub mod GoingDeclaration
 pub mod GoingStarts
 pub mod GoingEndTags
 pub mod GoingElements
+pub mod Accepted
 pub mod Sound
 pub mod Inverse
 pub mod Alive
