@@ -39,6 +39,8 @@ pub mod GoingStarts
 pub mod GoingEndTags
 pub mod GoingElements
 pub mod Accepted
+pub mod ByKind
+pub mod Nine
 pub mod Sound
 pub mod Inverse
 pub mod Alive

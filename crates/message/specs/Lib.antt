@@ -13,7 +13,11 @@ pub mod Elements
 pub mod Values
 pub mod Messages
 pub mod Readable
+pub mod Due
+pub mod Nine
 pub mod Raised
+pub mod Places
+pub mod Earliest
 pub mod Seven
 pub mod Meanings
 mod Examples

@@ -1,7 +1,5 @@
 -- Promise 6, meanings: which texts name a number, a status and a type, and what comments and elements in them do. (proofs/Meanings) Assumes nothing.
 use Prim.Native.Nat.{ℕ, _+_, _*_, _<_, _≤_}
-use Prim.Native.Char.{code}
-use Prim.Native.String.{String, [] as nothing, _∷_ as _then_}
 use mathlib.Core.Path.{_≡_}
 use mathlib.Core.Bool.{true, false}
 use mathlib.Core.List.{List, [], _∷_, _++_}
@@ -16,7 +14,7 @@ use Rattle.message.specs.Elements.Elements.{none}
 use Rattle.message.specs.Values.{isBreak, lineEnd}
 use Rattle.message.specs.Messages.Found.{found}
 use Rattle.message.specs.Messages.{numberValue, statusValue, typeAdvice}
-use Rattle.message.specs.Words.{okStatus, redundantStatus, unreadableMessage}
+use Rattle.message.specs.Words.{codes, okStatus, redundantStatus, unreadableMessage}
 use Rattle.message.specs.declared.Number.the-variants.{Names}
 use Rattle.message.specs.declared.Status.the-variants as statuses
 use Rattle.message.specs.declared.Advice.the-variants as advices
@@ -77,11 +75,6 @@ abbrev pub TypesMean : Type 0
 TypesMean = (s : List ℕ) (inside : Elements) (from to : ℕ) → TypeExactly s inside from to
 
 -- ---- the URIs as document 01 writes them
-
--- the numbers of a text's characters
-abbrev pub codes : String → List ℕ
-codes nothing = []
-codes (c then others) = code c ∷ codes others
 
 abbrev pub UrisAre : Type 0
 UrisAre =

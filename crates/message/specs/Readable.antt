@@ -10,6 +10,7 @@ use Rattle.message.specs.Class.{classOf, isName, isSpace}
 use Rattle.message.specs.Reading.{is, has, ends, blanks}
 use Rattle.message.specs.Reading.Reading.{whole}
 use Rattle.message.specs.Names.{Named, nameAt}
+use Rattle.message.specs.Words.{codes}
 use Rattle.message.specs.Limits.{Limits}
 use Rattle.message.specs.Elements.{Element, Quoted, quotedAt, documentAt}
 
@@ -20,9 +21,8 @@ Readable s = (l : Limits) × (root : Element) × (documentAt classOf s l 0 ≡ w
 abbrev pub Continues : List ℕ → Type 0
 Continues w = (u : List ℕ) × Readable (w ++ u)
 
--- `<!-- -->`
 abbrev pub aComment : List ℕ
-aComment = 60 ∷ 33 ∷ 45 ∷ 45 ∷ 32 ∷ 45 ∷ 45 ∷ 62 ∷ []
+aComment = codes "<!-- -->"
 
 -- markup may begin behind these bytes: a whole comment may stand there
 abbrev pub MarkupMayBegin : List ℕ → Type 0
