@@ -25,14 +25,14 @@ use Rattle.message.proofs.GoingMarkup.{other-byte, byte-test, and-none}
 use Rattle.message.proofs.Ways.{at-within}
 
 -- the first byte of a word that stands there, and the rest
-word-first : (s : List ℕ) (b : ℕ) (w : List ℕ) (i e : ℕ) → wordAt (b ∷ w) s i ≡ whole e → (has (is b) s i ≡ true) × (wordAt w s (i + 1) ≡ whole e)
+pub word-first : (s : List ℕ) (b : ℕ) (w : List ℕ) (i e : ℕ) → wordAt (b ∷ w) s i ≡ whole e → (has (is b) s i ≡ true) × (wordAt w s (i + 1) ≡ whole e)
 unfolding wordAt
 word-first s b w i e q =
     let x = then-whole (wordAt w s) (one (is b) s i) e q in
     let o = one-has (is b) s i (x .0) (x .1) in
     (o .0, ap (wordAt w s) (sym (o .1)) ∙ x .2)
 
-whole-is : {A : Type 0} (r : Reading A) → isWhole r ≡ true → (x : A) × (r ≡ whole x)
+pub whole-is : {A : Type 0} (r : Reading A) → isWhole r ≡ true → (x : A) × (r ≡ whole x)
 whole-is (whole x) e = (x, refl)
 whole-is (refused n p) e = absurd (true≢false (sym e))
 

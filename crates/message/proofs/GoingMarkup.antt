@@ -34,11 +34,11 @@ pub and-none : (t : Bool) → (t && false) ≡ false
 and-none true = refl
 and-none false = refl
 
-or-last : (t : Bool) {u : Bool} → u ≡ true → (t || u) ≡ true
+pub or-last : (t : Bool) {u : Bool} → u ≡ true → (t || u) ≡ true
 or-last true e = refl
 or-last false e = e
 
-not-both : (t : Bool) {u : Bool} → (t ≡ true → u ≡ false) → not (t && u) ≡ true
+pub not-both : (t : Bool) {u : Bool} → (t ≡ true → u ≡ false) → not (t && u) ≡ true
 not-both true h = rw (h refl)
 not-both false h = refl
 

@@ -41,6 +41,7 @@ pub mod GoingElements
 pub mod Accepted
 pub mod ByKind
 pub mod Nine
+pub mod Spelling
 pub mod Sound
 pub mod Inverse
 pub mod Alive

@@ -32,7 +32,7 @@ module _ (s : List ℕ) where
       ∙ ap (λ (u : List ℕ). u ++ (byteAt s m ∷ part s (m + 1) e)) (sym (part-some s a m (omega arith) (omega arith))))
 
   -- a word that was read stands there
-  word-part : (w : List ℕ) (at i : ℕ) → wordAt w s at ≡ whole i → i ≤ length s → (at ≤ i) × (part s at i ≡ w)
+  pub word-part : (w : List ℕ) (at i : ℕ) → wordAt w s at ≡ whole i → i ≤ length s → (at ≤ i) × (part s at i ≡ w)
   unfolding wordAt
   word-part [] at i q l = let e : at ≡ i = whole-same q in (omega arith, part-none s at i (omega arith))
   word-part (x ∷ w) at i q l =

@@ -15,9 +15,9 @@ use Rattle.message.specs.Messages.{messageOf}
 use Rattle.message.specs.Due.{Due}
 use Rattle.message.specs.declared.Message.{Message}
 
--- the order of refusals at one place
+-- the order of refusals at one place; 10 and 12 stand where no other does
 abbrev pub rank : ℕ → ℕ
-rank n = cond (eqb n 9) 0 (cond (eqb n 11) 1 (cond (eqb n 14) 2 3))
+rank n = cond (eqb n 9) 0 (cond (eqb n 11) 1 (cond (eqb n 14) 2 (cond (eqb n 10) 3 4)))
 
 -- it is due, and nothing is due before it
 pub record FirstDue (s : List ℕ) (n p : ℕ) : Type 0 where
