@@ -42,6 +42,7 @@ pub mod Accepted
 pub mod ByKind
 pub mod Nine
 pub mod Spelling
+pub mod Causes
 pub mod Sound
 pub mod Inverse
 pub mod Alive
