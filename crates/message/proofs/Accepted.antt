@@ -32,7 +32,7 @@ use Rattle.message.proofs.Inverse.{comment-ground, ground-comment}
 
 -- ---- what the machine does over bytes that are cut in two
 
-goes-dead : {st : State} → goes st ≡ dead → ⊥
+pub goes-dead : {st : State} → goes st ≡ dead → ⊥
 goes-dead e = let z : _≡_ {A = ℕ} 0 1 = cc in omega arith
 
 pub goes-same : {st st′ : State} → goes st ≡ goes st′ → st ≡ st′

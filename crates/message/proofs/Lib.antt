@@ -43,6 +43,7 @@ pub mod ByKind
 pub mod Nine
 pub mod Spelling
 pub mod Causes
+pub mod Blocked
 pub mod Sound
 pub mod Inverse
 pub mod Alive
