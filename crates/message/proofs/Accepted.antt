@@ -52,7 +52,7 @@ alive-first st u v end q = go (steps st u) refl
 
 -- ---- messages
 
-whole-fits : (l : Limits) (s : List ℕ) (root : Element) → documentAt classOf s l 0 ≡ whole root → length s ≤ l .bytes
+pub whole-fits : (l : Limits) (s : List ℕ) (root : Element) → documentAt classOf s l 0 ≡ whole root → length s ≤ l .bytes
 unfolding documentAt
 whole-fits l s root q = go (ltb (l .bytes) (length s)) refl q
   where

@@ -36,7 +36,7 @@ pub whole-is : {A : Type 0} (r : Reading A) → isWhole r ≡ true → (x : A) �
 whole-is (whole x) e = (x, refl)
 whole-is (refused n p) e = absurd (true≢false (sym e))
 
-question-no-start : isStart classOf 63 ≡ false
+pub question-no-start : isStart classOf 63 ≡ false
 unfolding classOf
 question-no-start = refl
 

@@ -43,7 +43,7 @@ not-both true h = rw (h refl)
 not-both false h = refl
 
 -- bytes behind a `<` that begin no name
-bang-no-start : isStart classOf 33 ≡ false
+pub bang-no-start : isStart classOf 33 ≡ false
 unfolding classOf
 bang-no-start = refl
 

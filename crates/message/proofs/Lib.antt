@@ -44,6 +44,7 @@ pub mod Nine
 pub mod Spelling
 pub mod Causes
 pub mod Blocked
+pub mod Earliest
 pub mod Sound
 pub mod Inverse
 pub mod Alive

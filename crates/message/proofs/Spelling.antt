@@ -9,7 +9,7 @@ use native.Mathlib.Omega.{arith}
 use native.Mathlib.Decide.{decLt}
 use lib.ListN.{length}
 use borrow.Author.Tests.{eqb-true, eq-eqb, not-true}
-use Rattle.message.specs.Class.{classOf, isSpace}
+use Rattle.message.specs.Class.{classOf, isStart, isSpace}
 use Rattle.message.specs.Reading.{Reading, _>>=_, isWhole, is, byteAt, has, one, wordAt}
 use Rattle.message.specs.Reading.Reading.{whole, refused}
 use Rattle.message.specs.Markup as markup
@@ -23,8 +23,8 @@ use Rattle.message.proofs.Parts.{part-length, part-some, part-none}
 use Rattle.message.proofs.Repeated.{word-part}
 use Rattle.message.proofs.Carried.{either}
 use Rattle.laws.proofs.Tests.{never}
-use Rattle.message.proofs.GoingMarkup.{or-last, not-both}
-use Rattle.message.proofs.GoingDeclaration.{word-first, whole-is}
+use Rattle.message.proofs.GoingMarkup.{or-last, not-both, byte-test, bang-no-start}
+use Rattle.message.proofs.GoingDeclaration.{word-first, whole-is, question-no-start}
 use Rattle.message.proofs.Automaton.{Ground}
 use Rattle.message.proofs.Dues.{isFirst, opening}
 
@@ -127,3 +127,11 @@ module _ (s : List ℕ) where
         let x = word-first s 60 (63 ∷ []) p (p + 2) (spelled-word (codes "<?") p h) in
         let y = word-first s 63 [] (p + 1) (p + 2) (x .1) in
         (x .0, or-last banging (sym (and-true (not (isFirst g && declares classOf s)) (y .0)) ∙ not-both (isFirst g) (λ f. never (declares classOf s) (λ d. other (start f) (is-declares d)))))
+
+    -- no name begins behind the `<` of an opening
+    pub opening-no-start : opening l s g p ≡ true → has (isStart classOf) s (p + 1) ≡ true → ⊥
+    opening-no-start h start =
+        ⊎-elim (λ b. other 33 bang-no-start (both-first (has (is 33) s (p + 1)) words b)) (λ b. other 63 question-no-start (both-first (has (is 63) s (p + 1)) (not (isFirst g && declares classOf s)) b)) (either banging asking h)
+      where
+        other : (b : ℕ) → isStart classOf b ≡ false → has (is b) s (p + 1) ≡ true → ⊥
+        other b no-start stands = true≢false (sym start ∙ byte-test s b (p + 1) (isStart classOf) no-start stands)
