@@ -54,3 +54,4 @@ pub mod Unquoted
 pub mod Delimited
 pub mod Repeated
 pub mod TagInverse
+pub mod PartInverse
