@@ -73,7 +73,7 @@ module _ (class : ℕ → ℕ) (s : List ℕ) (at : ℕ) where
           sym (whole-same (x .2)) ∙ (ap (two-parts first) (part-ends class s (first + 1) most (x .0) (x .1) .1) ∙ cond-true _ e)
       go first false e h = sym (whole-same h) ∙ cond-false _ e
 
-  name-same : (most most′ : ℕ) (n n′ : Named) → nameAt class most s at ≡ whole n → nameAt class most′ s at ≡ whole n′ → n ≡ n′
+  pub name-same : (most most′ : ℕ) (n n′ : Named) → nameAt class most s at ≡ whole n → nameAt class most′ s at ≡ whole n′ → n ≡ n′
   name-same most most′ n n′ q q′ = name-is most n q .1 ∙ sym (name-is most′ n′ q′ .1)
 
 -- ---- the attributes one by one

@@ -27,14 +27,14 @@ use Rattle.message.proofs.GoingQuotes.{Quoting, going-opened}
 use Rattle.message.proofs.GoingText.{going-value}
 use Rattle.message.proofs.GoingNames.{colon-no-name, part-one, Naming, Before, NameRead, NameBefore, going-name}
 
-or-both : (t u : Bool) → (t || u) ≡ false → (t ≡ false) × (u ≡ false)
+pub or-both : (t u : Bool) → (t || u) ≡ false → (t ≡ false) × (u ≡ false)
 or-both true u e = absurd (true≢false e)
 or-both false u e = (refl, e)
 
 greater-no-slash : (x : ℕ) → is 62 x ≡ true → is 47 x ≡ false
 greater-no-slash x h = rw (eqb-true x 62 h)
 
-end-no-start : (s : List ℕ) (i : ℕ) → has endsTag s i ≡ true → has (isStart classOf) s i ≡ false
+pub end-no-start : (s : List ℕ) (i : ℕ) → has endsTag s i ≡ true → has (isStart classOf) s i ≡ false
 unfolding classOf
 end-no-start s i h = has-in (isStart classOf) s i (has-lt endsTag s i h) ∙ go (byteAt s i) (has-byte endsTag s i h) (eqb (byteAt s i) 47) refl
   where
@@ -44,6 +44,9 @@ end-no-start s i h = has-in (isStart classOf) s i (has-lt endsTag s i h) ∙ go 
 
 inTag-seen : {b b′ : Bool} {m m′ : List ℕ} {seen seen′ o o′ : List (List ℕ)} → inTag b m seen o ≡ inTag b′ m′ seen′ o′ → seen ≡ seen′
 inTag-seen e = cc
+
+pub colon-no-tag : {a n : List ℕ} {seen o : List (List ℕ)} {b : Bool} {m : List ℕ} {seen′ o′ : List (List ℕ)} → attributeColon a n seen o ≡ inTag b m seen′ o′ → ⊥
+colon-no-tag e = let z : _≡_ {A = ℕ} 0 1 = cc in omega arith
 
 -- white space begins no name
 space-no-start : (s : List ℕ) (i : ℕ) → has (isSpace classOf) s i ≡ true → has (isStart classOf) s i ≡ false
@@ -72,7 +75,7 @@ module _ (l : Limits) (s : List ℕ) where
 
     -- ---- the name of one more
 
-    abbrev naming : List (List ℕ) → Naming l s
+    abbrev pub naming : List (List ℕ) → Naming l s
     naming seen = record {
       inPart = λ t a. attribute t a n seen o;
       behindColon = λ a. attributeColon a n seen o;
@@ -82,7 +85,7 @@ module _ (l : Limits) (s : List ℕ) where
       free = λ t a i. refl;
       looks = λ a i. refl;
       colon-more = λ a. refl;
-      colon-roomy = λ a spaced m seen′ o′ e. let z : _≡_ {A = ℕ} 0 1 = cc in absurd (omega arith);
+      colon-roomy = λ a spaced m seen′ o′ e. absurd (colon-no-tag e);
     }
 
     -- behind the tag's name and the attributes whose names were seen
@@ -100,7 +103,7 @@ module _ (l : Limits) (s : List ℕ) where
       solid : p < length s → isSpace classOf (byteAt s p) ≡ false
       solid within = fails-byte (isSpace classOf) s p within (ends-fails (isSpace classOf) s at)
 
-      spaced : has (isSpace classOf) s at ≡ true → At l s (inTag true n seen o) p
+      pub spaced : has (isSpace classOf) s at ≡ true → At l s (inTag true n seen o) p
       spaced h =
           rw (ends-more (isSpace classOf) s at h)
           (at-ends l s (isSpace classOf) (λ i t. rw (space-no-start s i t)) (λ x t. rw t) (at + 1) (acts-has l s (tagged .acts) (isSpace classOf) h (rw (has-byte (isSpace classOf) s at h))))
@@ -121,7 +124,7 @@ module _ (l : Limits) (s : List ℕ) where
         crowd : has (isSpace classOf) s at ≡ true → Crowd l s (length seen) p
         crowd h = record { at = tagged .tag; marked = tagged .marked; to = at; stands = tagged .stands; space = h; begins = refl }
 
-        before : has (isSpace classOf) s at ≡ true → leb (l .attributes) (length seen) ≡ false → NameBefore l s (naming seen) p
+        pub before : has (isSpace classOf) s at ≡ true → leb (l .attributes) (length seen) ≡ false → NameBefore l s (naming seen) p
         before h room = record {
           before = record {
             state = inTag true n seen o;
@@ -156,7 +159,7 @@ module _ (l : Limits) (s : List ℕ) where
         behind-does name read within =
             rw (fails-byte (isName classOf) s (name .end) within (read .ended), ap (λ (t : Bool). t && not (read .inSecond)) (sym (has-in (is 58) s (name .end) within)) ∙ read .undivided)
 
-        going-fresh-name : has (isSpace classOf) s at ≡ true → length seen < l .attributes → (name : Named) → nameAt classOf (l .part) s p ≡ whole name → NameRead l s (naming seen) p name
+        pub going-fresh-name : has (isSpace classOf) s at ≡ true → length seen < l .attributes → (name : Named) → nameAt classOf (l .part) s p ≡ whole name → NameRead l s (naming seen) p name
             → Outcome l s Fresh (cond (isKnown (part s p (name .end)) seen) (refused 9 (name .end)) (whole (name .end)))
         going-fresh-name h free name q read =
             cond-cases (Outcome l s Fresh) (isKnown (part s p (name .end)) seen)
@@ -222,7 +225,7 @@ module _ (l : Limits) (s : List ℕ) where
           go false e = ends-there false seen p (subst (Acts l s (stepInTag false n seen o)) (sym (ends-stop (isSpace classOf) s at e)) (tagged .acts)) (ends-fails (isSpace classOf) s at) h
 
       -- behind one more
-      next-tagged : (e : ℕ) (v : Quoted) (going-on : has endsTag s (ends (isSpace classOf) s at) ≡ false) → Fresh seen at tagged going-on e → quotedAt classOf s e ≡ whole v
+      pub next-tagged : (e : ℕ) (v : Quoted) (going-on : has endsTag s (ends (isSpace classOf) s at) ≡ false) → Fresh seen at tagged going-on e → quotedAt classOf s e ≡ whole v
           → At l s (inTag false n (part s (ends (isSpace classOf) s at) e ∷ seen) o) (v .to + 1) → Tagged (part s (ends (isSpace classOf) s at) e ∷ seen) (v .to + 1)
       next-tagged e v going-on fresh q here = record {
         acts = acts-at l s _ (v .to + 1) here refl refl;

@@ -16,7 +16,7 @@ use Rattle.message.specs.Elements.{part, Element, Start, endsTag, startE
 use Rattle.message.specs.Readable.{of-start}
 use Rattle.message.specs.Readable as readable
 use Rattle.message.proofs.Laws.{cond-cases, has-second, has-in, has-lt, has-byte, one-yes, one-no}
-use Rattle.message.proofs.Automaton.{Ground, first, before, behind, inside, State, ground, opened, name, colon, slash, Next, dead, goes, step, after, named, tag, betweenTags, stepInTag}
+use Rattle.message.proofs.Automaton.{Ground, first, before, behind, inside, State, ground, opened, name, colon, inTag, slash, Next, dead, goes, step, after, named, tag, betweenTags, stepInTag}
 use Rattle.message.proofs.Dues.{isBehind, depth, opening, long, due, At}
 use Rattle.message.proofs.Going.{deep, Stuck, Outcome, outcome-then, outcome-as, outcome-one, at-has}
 use Rattle.message.proofs.Acting.{fails-byte, stuck-here, Acts, acts-at, acts-as}
@@ -30,6 +30,10 @@ names first = []
 names before = []
 names behind = []
 names (inside b v o) = v ∷ o
+
+-- behind the colon of a name the machine is not behind the name
+pub colon-no-tag : {n : List ℕ} {o : List (List ℕ)} {b : Bool} {m : List ℕ} {seen o′ : List (List ℕ)} → colon n o ≡ inTag b m seen o′ → ⊥
+colon-no-tag e = let z : _≡_ {A = ℕ} 0 1 = cc in omega arith
 
 module _ (l : Limits) (s : List ℕ) where
   -- a `/` behind the `<` ends the element around it
@@ -94,7 +98,7 @@ module _ (l : Limits) (s : List ℕ) where
     -- ---- with room for it
 
     module _ (tagged : has (is 60) s i ≡ true) (room : leb (l .levels) (depth g) ≡ false) where
-      abbrev naming : Naming l s
+      abbrev pub naming : Naming l s
       naming = record {
         inPart = λ t n. name t n (names g);
         behindColon = λ n. colon n (names g);
@@ -104,10 +108,10 @@ module _ (l : Limits) (s : List ℕ) where
         free = λ t n j. refl;
         looks = λ n j. refl;
         colon-more = λ n. refl;
-        colon-roomy = λ n spaced m seen o e. let z : _≡_ {A = ℕ} 0 1 = cc in absurd (omega arith);
+        colon-roomy = λ n spaced m seen o e. absurd (colon-no-tag e);
       }
 
-      name-before : NameBefore l s naming (i + 1)
+      pub name-before : NameBefore l s naming (i + 1)
       name-before = record {
         before = record {
           state = opened g;
@@ -126,7 +130,7 @@ module _ (l : Limits) (s : List ℕ) where
       }
 
       -- behind the name
-      tagged-there : (n : Named) → nameAt classOf (l .part) s (i + 1) ≡ whole n → NameRead l s naming (i + 1) n → Tagged l s (part s (i + 1) (n .end)) (names g) [] (n .end)
+      pub tagged-there : (n : Named) → nameAt classOf (l .part) s (i + 1) ≡ whole n → NameRead l s naming (i + 1) n → Tagged l s (part s (i + 1) (n .end)) (names g) [] (n .end)
       tagged-there n q read = record {
         acts = acts-as l s (acts-at l s _ (n .end) (read .here) refl refl) (stepInTag false (part s (i + 1) (n .end)) [] (names g)) (λ within.
         rw (fails-byte (isName classOf) s (n .end) within (read .ended), ap (λ (t : Bool). t && not (read .inSecond)) (sym (has-in (is 58) s (n .end) within)) ∙ read .undivided));

@@ -4,7 +4,7 @@
 -- read whole ends past where it began, `Loops` what a loop over a reader keeps, and `Facts` that each element is what is read again at its place. `Meanings` proves promise 6,
 -- with `Letters` about texts and `Decimals` about numbers in them.
 -- `Sound` is what holds in every state of the machine of `Automaton`, `Inverse` what a comment and end tags behind it say of a state, and `Alive` that the machine went through all
--- that is before it.
+-- that is before it. `TagInverse` and `PartInverse` lead back from what specs/Readable says by readers to the state of the machine.
 -- `Seven` and `Delimited` prove the promises of specs/Seven: `Numbers` tells the numbers of refusal, `Within` the elements of a message, `Carried` what their start tags
 -- carry, `Unquoted` what values hold, and `Repeated` that end tags repeat names.
 pub mod Laws
@@ -59,3 +59,5 @@ pub mod Seven
 pub mod Unquoted
 pub mod Delimited
 pub mod Repeated
+pub mod TagInverse
+pub mod PartInverse

@@ -80,13 +80,13 @@ later-solid t low high h = between-below (cond t low 128) high 60 (cond-cases (�
 abbrev pub Letter : ℕ → Type 0
 Letter x = (isName classOf x || eqb x 58) ≡ true
 
-name-letter : (x : ℕ) → isName classOf x ≡ true → Letter x
+pub name-letter : (x : ℕ) → isName classOf x ≡ true → Letter x
 name-letter x h = sym (or-true (eqb x 58) h)
 
 start-letter : (x : ℕ) → isStart classOf x ≡ true → Letter x
 start-letter x h = name-letter x (rw (eqb-true (classOf x) 5 h))
 
-colon-letter : Letter 58
+pub colon-letter : Letter 58
 unfolding classOf
 colon-letter = refl
 
