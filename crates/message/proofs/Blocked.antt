@@ -27,14 +27,10 @@ use Rattle.message.proofs.Past.{at-first}
 use Rattle.message.proofs.Ways.{steps-at}
 use Rattle.message.proofs.Spelling.{stands-opening, spelled-first}
 use Rattle.message.proofs.Causes.{long-name}
+use Rattle.message.proofs.TagInverse.{tag-inverse}
+use Rattle.message.proofs.PartInverse.{part-inverse}
 
-abbrev pub TagInverse : Type 0
-TagInverse = (l : Limits) (s : List ℕ) (p : ℕ) (st : State) → At l s st p → (at k to : ℕ) → MarkupMayBegin (take at s) → TagStands s at k to → has (isSpace classOf) s to ≡ true → p ≡ reading.blanks classOf s to → (n : List ℕ) × (seen : List (List ℕ)) × (o : List (List ℕ)) × (st ≡ inTag true n seen o) × (length seen ≡ k)
-
-abbrev pub PartInverse : Type 0
-PartInverse = (l : Limits) (s : List ℕ) (p : ℕ) (st : State) → At l s st p → (at : ℕ) → MarkupMayBegin (take at s) → PartStands s at p → has (isName classOf) s p ≡ true → dues.long l s p ≡ true → ((g : Ground) → st ≡ ground g → ⊥) × ((due l s st p ≡ true) ⊎ ((p < length s) × (step st (byteAt s p) ≡ automaton.dead)))
-
-module _ (tag-inverse : TagInverse) (part-inverse : PartInverse) (s : List ℕ) where
+module _ (s : List ℕ) where
   abbrev Here : State → ℕ → Type 0
   Here = At linkLimits s
 

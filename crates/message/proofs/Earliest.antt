@@ -32,13 +32,16 @@ use Rattle.message.proofs.Alive.{alive-before}
 use Rattle.message.proofs.ByKind.{of-document, of-kind, Refusal, document-refused, document-whole, message-refusal}
 use Rattle.message.proofs.Spelling.{spelled-first, opening-no-start}
 use Rattle.message.proofs.Causes.{long-name, cause-due, cause-goes}
-use Rattle.message.proofs.Blocked.{TagInverse, PartInverse, blocked}
+use Rattle.message.proofs.TagInverse.{tag-inverse}
+use Rattle.message.proofs.PartInverse.{part-inverse}
+use Rattle.message.proofs.Blocked.{blocked}
+use Rattle.message.proofs.Nine.{document-stuck}
 
 -- the number with that rank
 abbrev unrank : ℕ → ℕ
 unrank r = cond (eqb r 0) 9 (cond (eqb r 1) 11 (cond (eqb r 2) 14 (cond (eqb r 3) 10 12)))
 
-module _ (tag-inverse : TagInverse) (part-inverse : PartInverse) (s : List ℕ) where
+module _ (s : List ℕ) where
   abbrev Here : State → ℕ → Type 0
   Here = At linkLimits s
 
@@ -61,7 +64,7 @@ module _ (tag-inverse : TagInverse) (part-inverse : PartInverse) (s : List ℕ) 
   none-passed : (st : State) (p : ℕ) → Here st p → (n q : ℕ) → Due s n q → q < p → ⊥
   none-passed st p here n q d less =
       let a = alive-before linkLimits s p q st here less in
-      blocked tag-inverse part-inverse s q (a .0) (a .1) (a .2) (a .6) (a .3) (a .4) n q refl d
+      blocked s q (a .0) (a .1) (a .2) (a .6) (a .3) (a .4) n q refl d
 
   -- ---- at one place
 
@@ -226,3 +229,29 @@ module _ (tag-inverse : TagInverse) (part-inverse : PartInverse) (s : List ℕ) 
     none-due = none-due;
     read-free = λ m q. let root = read-root m q in let fits = whole-fits linkLimits s (root .0) (root .1) in (fits, whole-free fits (root .0) (root .1));
   }
+
+pub earliest-wins : EarliestWins
+earliest-wins = answered
+
+-- ---- the places of 10, 11, 12 and 14
+
+place-of : (n : ℕ) → (n ≡ 8 → ⊥) → (n ≡ 13 → ⊥) → (s : List ℕ) (p : ℕ) → answer s ≡ refused n p → Continues (take p s) × Due s n p
+place-of n not-8 not-13 s p q = go (message-refusal linkLimits s n p q)
+  where
+    go : Refusal linkLimits s n p → Continues (take p s) × Due s n p
+    go (of-document e) =
+        let stuck = document-stuck linkLimits s n p e not-8 in
+        (at-continues linkLimits s (stuck .0) p (stuck .1), cause-due s (stuck .0) p n (stuck .1) (stuck .2))
+    go (of-kind number place root e) = absurd (not-13 number)
+
+pub place-of-ten : PlaceOfTen
+place-of-ten = place-of 10 (λ e. omega arith) (λ e. omega arith)
+
+pub place-of-eleven : PlaceOfEleven
+place-of-eleven = place-of 11 (λ e. omega arith) (λ e. omega arith)
+
+pub place-of-twelve : PlaceOfTwelve
+place-of-twelve = place-of 12 (λ e. omega arith) (λ e. omega arith)
+
+pub place-of-fourteen : PlaceOfFourteen
+place-of-fourteen = place-of 14 (λ e. omega arith) (λ e. omega arith)
