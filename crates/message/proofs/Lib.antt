@@ -25,7 +25,6 @@ pub mod GoingAttributes
 pub mod Kept
 pub mod Again
 pub mod ByForm
-pub mod Unlimited
 pub mod Raising
 pub mod Letters
 pub mod Decimals

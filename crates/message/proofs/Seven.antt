@@ -27,7 +27,8 @@ use Rattle.message.specs.declared.Message.{Message}
 use Rattle.message.proofs.Laws.{went, cond-true, cond-false, cond-cases}
 use Rattle.message.proofs.Trees.{whole-same}
 use Rattle.message.proofs.Facts.{then-whole}
-use Rattle.message.proofs.Numbers.{refuses-number, told-document}
+use Rattle.message.proofs.ByForm.{refuses-number}
+use Rattle.message.proofs.Numbers.{Holds, told-document}
 use Rattle.message.proofs.Within.{WasRead, EachRead, root-read, inside-read, Attributed, attributed}
 use Rattle.message.proofs.Carried.{called-carries, carries-called}
 
@@ -67,7 +68,7 @@ kind-word name k = next kinds.SessionOpenRequest (next kinds.SessionOpenResponse
 
 -- ---- a reading that is whole or 13
 
-data Decided {A : Type 0} : Reading A → Type 0 where
+pub data Decided {A : Type 0} : Reading A → Type 0 where
   read : (x : A) → Decided (whole x)
   thirteen : Decided (refused 13 0)
 
@@ -164,7 +165,7 @@ module _ (s : List ℕ) (l : Limits) where
   -- ---- the seven
 
   module _ (root : Element) where
-    abbrev rest : Reading Message
+    abbrev pub rest : Reading Message
     rest = kindOf (part s (root .tag .name .local) (root .tag .name .end)) >>= messageOfKind classOf l s root
 
     begun : (k : Kind) → Called s (kindWord k) (root .tag) → isWhole (messageOfKind classOf l s root k) ≡ true → isWhole rest ≡ true
@@ -181,7 +182,7 @@ module _ (s : List ℕ) (l : Limits) where
         decided-then _ (decided-only s words.queryRequest (root .inside)) (λ e. decided-then _ (decided-needed (attributeOf classOf l s words.identity (e .tag))) (λ v. read _))
     decided-of-kind kinds.Response = decided-then _ (decided-only s words.queryResponse (root .inside)) (λ e. read _)
 
-    decided : Decided rest
+    pub decided : Decided rest
     decided = decided-then (messageOfKind classOf l s root) (decided-kind (part s (root .tag .name .local) (root .tag .name .end))) decided-of-kind
 
     module _ (was : WasRead classOf s l root) where
@@ -263,6 +264,9 @@ pub thirteen-is-none : ThirteenIsNone
 unfolding messageAt
 thirteen-is-none s l p q = go (documentAt classOf s l 0) refl
   where
+    other : Holds Other s l
+    other = record { eight = λ h z. omega arith; nine = λ z. omega arith; ten = λ h z. omega arith; eleven = λ h z. omega arith; twelve = λ z. omega arith; fourteen = λ h z. omega arith }
+
     place : (r : Reading Message) → Decided r → r ≡ refused 13 p → p ≡ 0
     place _ (read m) h = unread (sym h)
     place _ thirteen h = cc
@@ -274,4 +278,4 @@ thirteen-is-none s l p q = go (documentAt classOf s l 0) refl
     go (refused n p′) e =
         let h : refused n p′ ≡ refused 13 p = sym (ap (λ (d : Reading Element). d >>= (λ root. rest s l root)) e) ∙ q in
         let z : n ≡ 13 = cc in
-        absurd (refuses-number {P = Other} n p′ (told-document Other (λ z. omega arith) s classOf (λ z. omega arith) l (λ z. omega arith) (λ z. omega arith) (λ z. omega arith) (λ z. omega arith) 0) e z)
+        absurd (refuses-number {P = Other} n p′ (told-document Other classOf s l other 0) e z)
