@@ -66,7 +66,7 @@ module _ (l l′ : Limits) where
     unfolding partAt
     kept-part at = kept-on _ _ (one (isStart class) s at) (λ next. kept-short at)
 
-    pub kept-name : (at : ℕ) → Kept (nameAt class (l .part) s at) (nameAt class (l′ .part) s at)
+    kept-name : (at : ℕ) → Kept (nameAt class (l .part) s at) (nameAt class (l′ .part) s at)
     unfolding nameAt
     kept-name at =
         kept-then _ _ (kept-part at) (λ first q.
@@ -95,7 +95,7 @@ module _ (l l′ : Limits) where
         room : Kept (roomIn (ltb (length seen) (l .attributes))) (roomIn (ltb (length seen) (l′ .attributes)))
         room = go (ltb (length seen) (l .attributes)) refl (ltb (length seen) (l′ .attributes)) refl
 
-    kept-attributes : (fuel : ℕ) (seen : List (List ℕ)) (at : ℕ) → Kept (attributesAt class s l fuel seen at) (attributesAt class s l′ fuel seen at)
+    pub kept-attributes : (fuel : ℕ) (seen : List (List ℕ)) (at : ℕ) → Kept (attributesAt class s l fuel seen at) (attributesAt class s l′ fuel seen at)
     unfolding attributesAt
     kept-attributes zero seen at = inl refl
     kept-attributes (suc fuel) seen at =

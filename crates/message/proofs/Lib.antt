@@ -23,7 +23,6 @@ pub mod Acting
 pub mod GoingNames
 pub mod GoingAttributes
 pub mod Kept
-pub mod Again
 pub mod ByForm
 pub mod Raising
 pub mod Letters

@@ -1,7 +1,7 @@
 -- The numbers of refusal of the readers that take the limits: what holds of 9, of 12 and of the number of each limit that is below the message's length
 -- holds of all their refusals. Assumes nothing.
 use Prim.Native.Nat.{ℕ, zero, suc, _+_, _-_, _<_, _≤_}
-use mathlib.Core.Path.{_≡_, subst}
+use mathlib.Core.Path.{_≡_}
 use mathlib.Core.List.{List, [], _∷_}
 use native.Mathlib.Decide.{decLt}
 use native.Mathlib.Omega.{arith}
@@ -15,8 +15,8 @@ use Rattle.message.specs.Names.{Named, shortAt, partAt, nameAt}
 use Rattle.message.specs.Limits.{Limits}
 use Rattle.message.specs.Elements.{part, Element, Start, isKnown, endsTag, freshAt, attributesAt, withNameAt, startAt, endPartAt, endNameAt, endTagAt, contentAt, restAt, tooDeepAt, elementAt, rootAt, documentAt}
 use Rattle.message.proofs.Laws.{cond-cases, has-lt, ends-from, ends-le, ends-out}
-use Rattle.message.proofs.Progress.{Every, past-whole}
-use Rattle.message.proofs.Trees.{one-cases, past-name, past-quoted, past-fresh, past-start, free-stops, element-on}
+use Rattle.message.proofs.Progress.{past-whole}
+use Rattle.message.proofs.Trees.{one-cases, name-on, fresh-on, quoted-on, free-whole, past-start, element-on}
 use Rattle.message.proofs.ByForm.{Refuses, refuses-after, refuses-then, form-one, form-word, form-start-end, form-end, form-quoted, form-declared, form-around, form-free}
 use Rattle.message.proofs.ByForm.Refuses.{never, with}
 
@@ -78,16 +78,15 @@ module _ (P : ℕ → Type 0) (class : ℕ → ℕ) (s : List ℕ) (l : Limits) 
       let on : k < p = omega (arith, ends-from (isSpace class) s at) in
       cond-cases Told (has endsTag s p) (λ t. never) (λ t.
       refuses-after _ (told-fresh seen at p on) (λ e q.
-      let e-on : k < e = past-whole (λ e. e) (length s) k q (past-fresh class s k l seen at p on) .0 in
       refuses-after _ (form-quoted P (holds .nine) s class e) (λ v r.
-      told-attributes fuel (part s p e ∷ seen) (v .to + 1) (omega (arith, past-whole (λ v. v .to) (length s) k r (past-quoted class s k e e-on))))))
+      told-attributes fuel (part s p e ∷ seen) (v .to + 1) (omega (arith, fresh-on class s l seen at q, quoted-on class s r)))))
 
   told-start : (at : ℕ) → Told (startAt class s l at)
   unfolding startAt withNameAt
   told-start at =
       one-cases Told (is 60) s at _ (λ t.
       refuses-after _ (told-name (at + 1)) (λ n q.
-      let some : 0 < n .end = past-whole (λ n. n .end) (length s) 0 q (past-name class s 0 (l .part) (at + 1) (omega arith)) .0 in
+      let some : 0 < n .end = omega (arith, name-on class s (l .part) q) in
       refuses-then _ (told-attributes (length s) [] (n .end) some) (form-start-end P (holds .nine) s (at + 1) n))) (with (holds .nine))
 
   -- ---- end tags
@@ -115,7 +114,7 @@ module _ (P : ℕ → Type 0) (class : ℕ → ℕ) (s : List ℕ) (l : Limits) 
     told-content zero at h = with (holds .nine)
     told-content (suc fuel) at h =
         refuses-after _ (form-free P (holds .nine) s class (holds .twelve) (length s) at) (λ stop q.
-        let further : k < stop = omega (arith, subst (Every (λ x. (at ≤ x) × (x < length s))) q (free-stops class s at (length s) at (omega arith))) in
+        let further : k < stop = omega (arith, free-whole class s at stop q) in
         cond-cases Told (has (is 47) s (stop + 1)) (λ t. refuses-then _ (told-end-tag (st .begin) (st .name) (stop + 2)) (λ e. never)) (λ t.
         refuses-after _ (told stop further) (λ e r. refuses-then _ (told-content fuel (e .tag .end) (omega (arith, on stop e r))) (λ c. never))))
 

@@ -23,6 +23,16 @@ pub every-then : {A B : Type 0} (P : A → Type 0) (Q : B → Type 0) (next : A 
 every-then P Q next (whole x) h g = g x h
 every-then P Q next (refused number place) h g = tt
 
+-- whatever the first has read
+pub every-on : {A B : Type 0} (Q : B → Type 0) (next : A → Reading B) (a : Reading A) → ((x : A) → Every Q (next x)) → Every Q (a >>= next)
+every-on Q next (whole x) g = g x
+every-on Q next (refused number place) g = tt
+
+-- what follows from it
+pub every-so : {A : Type 0} (P Q : A → Type 0) → ((x : A) → P x → Q x) → (a : Reading A) → Every P a → Every Q a
+every-so P Q f (whole x) h = f x h
+every-so P Q f (refused number place) h = tt
+
 -- where the reading is whole, what was read ends past the place k, and not past n, the length of the message
 abbrev pub Past : {A : Type 0} → (A → ℕ) → ℕ → ℕ → Reading A → Type 0
 Past end n k = Every (λ x. (k < end x) × (end x ≤ n))
