@@ -1,10 +1,9 @@
 -- The numbers of refusal. The readers that take no limits refuse for the form of the message alone: what holds of 9 and of 12 holds of all their
 -- refusals. Assumes nothing.
 use Prim.Native.Nat.{ℕ, zero, suc, _+_, _-_, _*_}
-use mathlib.Core.Path.{_≡_, refl, subst}
+use mathlib.Core.Path.{_≡_, refl, sym, subst}
 use mathlib.Core.Bool.{Bool, _&&_, _||_}
 use mathlib.Core.List.{List, [], _∷_}
-use native.Mathlib.Omega.{arith}
 use lib.ListN.{length}
 use lib.Dec.{ltb, leb}
 use Rattle.message.specs.Class.{between, isSpace, isText, isPlain, isPlainNote}
@@ -16,6 +15,7 @@ use Rattle.message.specs.Text.{specialAt, bracketAt, beyondPlainInAt, be
 use Rattle.message.specs.Markup.{hyphens, doctype, cdata, version, oneDotZero, encoding, upperUtf8, lowerUtf8, closing, opensAt, utf8At, bangAt, aroundAt, declares, encodingAt, declarationAt}
 use Rattle.message.specs.Elements.{startEndAt, endAt, quotedAt, freeAt, declaredOf}
 use Rattle.message.proofs.Laws.{cond-cases}
+use Rattle.message.proofs.Trees.{unread}
 
 -- the number of a refusal, if the reading is one, is a P
 pub data Refuses (P : ℕ → Type 0) {A : Type 0} : Reading A → Type 0 where
@@ -32,7 +32,7 @@ pub refuses-then : {P : ℕ → Type 0} {A B : Type 0} {a : Reading A} (next : A
 refuses-then next h g = refuses-after next h (λ x q. g x)
 
 pub refuses-number : {P : ℕ → Type 0} {A : Type 0} {a : Reading A} (n p : ℕ) → Refuses P a → a ≡ refused n p → P n
-refuses-number n p never q = let z : _≡_ {A = ℕ} 0 1 = cc in absurd (omega arith)
+refuses-number n p never q = unread (sym q)
 refuses-number {P = P} n p (with {n = n′} h) q = let z : n′ ≡ n = cc in subst P z h
 
 -- ---- readers that refuse by 9 alone

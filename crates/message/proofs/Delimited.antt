@@ -5,7 +5,6 @@ use mathlib.Core.Bool.{true}
 use mathlib.Core.List.{List}
 use native.Mathlib.Omega.{arith}
 use lib.ListN.{length}
-use borrow.Author.Tests.{eqb-true}
 use Rattle.laws.proofs.Tests.{true-false}
 use Rattle.message.specs.Class.{classOf}
 use Rattle.message.specs.Reading.{Reading, isQuote, is, has, one, ends, byteAt, equalsAt, openedAt}
@@ -20,6 +19,7 @@ use Rattle.message.specs.Seven.Carries.{this, later}
 use Rattle.message.specs.Seven.First.{this as this-first, later as later-first}
 use Rattle.message.specs.Seven.Between.{tags, empty}
 use Rattle.message.proofs.Laws.{has-lt, has-byte, one-has}
+use Rattle.message.proofs.Runs.{byte-is}
 use Rattle.message.proofs.Progress.{Every}
 use Rattle.message.proofs.Trees.{whole-same, value-stops, free-mark, element-on}
 use Rattle.message.proofs.Facts.{then-whole, end-cases, start-starts, content-every, rest-cases}
@@ -40,7 +40,7 @@ module _ (s : List ℕ) where
         order = on .0;
         within = on .1;
         mark = mark;
-        closed = eqb-true (byteAt s stop) quote (has-byte (is quote) s stop (x .1));
+        closed = byte-is quote s stop (x .1);
         inside = x .0;
       }
 
@@ -65,9 +65,6 @@ attributes-delimited s w tag v c = carried-quotes s w (tag .name .end) v c
 -- ---- elements
 
 module _ (s : List ℕ) where
-  byte-is : (x at : ℕ) → has (is x) s at ≡ true → byteAt s at ≡ x
-  byte-is x at h = eqb-true (byteAt s at) x (has-byte (is x) s at h)
-
   -- the `>` of a start tag, behind a `/` where it is an empty-element tag
   record TagEnds (st : Start) : Type 0 where
     pub some : 0 < st .from
@@ -81,7 +78,7 @@ module _ (s : List ℕ) where
       (λ u. record { some = omega arith; closed = back (at + 1 - 1) at 62 (omega arith) u; slash = λ e. absurd (true-false e refl) })
     where
       back : (i at x : ℕ) → i ≡ at → has (is x) s at ≡ true → byteAt s i ≡ x
-      back i at x h t = ap (byteAt s) h ∙ byte-is x at t
+      back i at x h t = ap (byteAt s) h ∙ byte-is x s at t
 
   module _ (l : Limits) where
     -- the `</` behind an element's content
@@ -107,8 +104,8 @@ module _ (s : List ℕ) where
         let ends = tag-ends (st .begin) (st .name) (starts .attributed .0) st (starts .ends) in
         rest-cases classOf s l child st (λ e. Between s (e .tag)) (λ t. empty refl refl (ends .closed) (ends .slash t)) (λ c q.
         let x = content-ends child grows st (length s) (st .from) c q in
-        tags (ends .some) (x .order) (has-lt (is 47) s (c .to + 1) (x .slash)) (ends .closed) (byte-is 60 (c .to) (x .mark)) (byte-is 47 (c .to + 1) (x .slash))
-        (end-tag classOf s l (st .begin) (st .name) (omega (arith, starts .begins)) (starts .named) (c .to + 2) (c .end) (x .tag)))
+        tags (ends .some) (x .order) (has-lt (is 47) s (c .to + 1) (x .slash)) (ends .closed) (byte-is 60 s (c .to) (x .mark)) (byte-is 47 s (c .to + 1) (x .slash))
+        (end-tag classOf s l (st .begin) (st .name) (starts .named) (c .to + 2) (c .end) (x .tag)))
 
     read-between : (e : Element) → WasRead classOf s l e → Between s (e .tag)
     unfolding elementAt

@@ -7,7 +7,7 @@ use mathlib.Core.List.{List, [], _∷_}
 use native.Mathlib.Omega.{arith}
 use lib.ListN.{length}
 use lib.Dec.{ltb}
-use borrow.Author.Tests.{lt-ltb, le-ltb, ltb-true, ltb-false, eqb-true, ne-eqb}
+use borrow.Author.Tests.{lt-ltb, le-ltb, ltb-true, ltb-false}
 use Rattle.message.specs.Class.{classOf, isText}
 use Rattle.message.specs.Reading.{Reading, _>>=_, is, byteAt, has}
 use Rattle.message.specs.Reading.Reading.{whole}
@@ -18,10 +18,11 @@ use Rattle.message.specs.Values.{isBreak, lineEnd, letterAt, attributeLe
 use Rattle.message.specs.Meanings.{ValueSays, ContentSays}
 use Rattle.message.specs.Meanings.ValueSays.{done, space, byte, special}
 use Rattle.message.specs.Meanings.ContentSays.{done as all-done, comment, line, byte as text-byte, special as text-special}
-use Rattle.message.proofs.Laws.{cond-cases, both-second, has-in, has-lt, has-byte}
+use Rattle.message.proofs.Laws.{cond-cases, both-second, has-lt}
+use Rattle.message.proofs.Runs.{has-known}
 use Rattle.message.proofs.Progress.{PastCharacter, past-whole, past-special}
 use Rattle.message.proofs.MarkupLoop.{bang-on}
-use Rattle.message.proofs.Trees.{whole-same}
+use Rattle.message.proofs.Trees.{whole-same, unread}
 use Rattle.message.proofs.Facts.{then-whole}
 
 module _ (s : List ℕ) where
@@ -98,9 +99,7 @@ module _ (s : List ℕ) where
 
   -- a carriage return is no `<`
   no-tag : (at : ℕ) → has (is 13) s at ≡ true → has (is 60) s at ≡ false
-  no-tag at b =
-      let thirteen = eqb-true (byteAt s at) 13 (has-byte (is 13) s at b) in
-      has-in (is 60) s at (has-lt (is 13) s at b) ∙ ne-eqb (byteAt s at) 60 (λ sixty. omega (arith, thirteen, sixty))
+  no-tag at b = has-known 13 s at b (is 60)
 
   module _ (to : ℕ) where
     -- with some fuel that is enough the reader gives the text
@@ -122,7 +121,7 @@ module _ (s : List ℕ) where
 
     pub value-said : (fuel at : ℕ) (text : List ℕ) → attributeMeaning classOf s fuel to at ≡ whole text → ValueSays s to at text
     unfolding attributeMeaning
-    value-said zero at text q = let z : _≡_ {A = ℕ} 0 1 = cc in absurd (omega arith)
+    value-said zero at text q = unread q
     value-said (suc fuel) at text q = go (value-said fuel) (ltb at to) refl q
       where
         letters : Character → Reading (List ℕ)
@@ -177,7 +176,7 @@ module _ (s : List ℕ) where
 
     pub content-said : (fuel at : ℕ) (text : List ℕ) → contentMeaning classOf s fuel to at ≡ whole text → ContentSays s to at text
     unfolding contentMeaning
-    content-said zero at text q = let z : _≡_ {A = ℕ} 0 1 = cc in absurd (omega arith)
+    content-said zero at text q = unread q
     content-said (suc fuel) at text q = go (content-said fuel) (ltb at to) refl q
       where
         Further : Type 0

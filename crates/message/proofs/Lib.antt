@@ -9,6 +9,7 @@
 -- carry, `Unquoted` what values hold, and `Repeated` that end tags repeat names.
 pub mod Laws
 pub mod Digits
+pub mod Runs
 pub mod Parts
 pub mod ClassTable
 pub mod Progress

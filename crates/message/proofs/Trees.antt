@@ -1,19 +1,20 @@
 -- The readers of elements: what they read whole ends past where it began and within the message. Assumes nothing.
 use Prim.Native.Nat.{ℕ, zero, suc, _+_, _-_, _<_, _≤_}
-use mathlib.Core.Path.{_≡_, refl, sym, _∙_, subst}
+use mathlib.Core.Path.{_≡_, refl, sym, subst}
 use mathlib.Core.Bool.{Bool, true, false, cond}
 use mathlib.Core.List.{List, [], _∷_}
 use native.Mathlib.Omega.{arith}
 use lib.ListN.{length, getD}
 use lib.Dec.{ltb, eqb}
-use borrow.Author.Tests.{le-leb, ltb-true, eqb-true}
+use borrow.Author.Tests.{ltb-true}
 use Rattle.message.specs.Class.{isStart, isName, isSpace, isPlain}
 use Rattle.message.specs.Reading.{Reading, _>>=_, is, byteAt, has, one, ends, blanks, equalsAt, openedAt, isQuote}
 use Rattle.message.specs.Reading.Reading.{whole, refused}
 use Rattle.message.specs.Names.{Named, shortAt, partAt, nameAt}
 use Rattle.message.specs.Text.{beyondPlainAt, beyondPlainInAt, textAt, valueAt}
 use Rattle.message.specs.Markup.{bangAt}
-use Rattle.message.proofs.Laws.{cond-cases, has-in, has-lt, has-byte, has-out, ends-from, ends-le, ends-more, ends-out, one-yes, one-no, stopped}
+use Rattle.message.proofs.Laws.{cond-cases, has-lt, has-out, ends-from, ends-le, ends-out, one-yes, one-no, stopped}
+use Rattle.message.proofs.Runs.{start-in-name}
 use Rattle.message.proofs.Progress.{Every, every-then, every-on, every-so, Past, past-then, past-whole, past-one, past-word, past-beyond-plain, past-beyond-plain-in, beyond-plain-out}
 use Rattle.message.proofs.MarkupLoop.{past-bang}
 use Rattle.message.specs.Limits.{Limits}
@@ -46,13 +47,6 @@ pub free-out : (class : ℕ → ℕ) (s : List ℕ) (fuel at : ℕ) → length s
 unfolding freeAt
 free-out class s zero at h = refl
 free-out class s (suc fuel) at h = rw (text-out class s (length s) at h)
-
--- what begins a name is part of it
-start-in-name : (class : ℕ → ℕ) (s : List ℕ) (at : ℕ) → has (isStart class) s at ≡ true → at < ends (isName class) s at
-start-in-name class s at h =
-    let begins = eqb-true (class (byteAt s at)) _ (has-byte (isStart class) s at h) in
-    let in-name : has (isName class) s at ≡ true = has-in (isName class) s at (has-lt (isStart class) s at h) ∙ le-leb _ (class (byteAt s at)) (omega (arith, begins)) in
-    omega (arith, ends-more (isName class) s at in-name, ends-from (isName class) s (at + 1))
 
 -- where the reading is whole, what was read ends past the place k and within the message
 abbrev Behind : List ℕ → ℕ → {A : Type 0} → (A → ℕ) → Reading A → Type 0
