@@ -28,6 +28,11 @@ pub then-same : {A B : Type 0} (next next′ : A → Reading B) (a : Reading A) 
 then-same next next′ (whole x) g = g x refl
 then-same next next′ (refused n p) g = refl
 
+-- a refusal goes through what is made of a reading
+pub refused-then : {A B : Type 0} (a : Reading A) (f : A → B) {n p : ℕ} → (a >>= (λ x. whole (f x))) ≡ refused n p → a ≡ refused n p
+refused-then (whole x) f q = unread (sym q)
+refused-then (refused n′ p′) f {n} {p} q = let y : n′ ≡ n = cc in let z : p′ ≡ p = cc in rw (y, z)
+
 -- ---- start tags
 
 -- one ends with `/>` or with `>`

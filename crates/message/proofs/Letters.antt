@@ -25,30 +25,36 @@ use Rattle.message.proofs.MarkupLoop.{bang-on}
 use Rattle.message.proofs.Trees.{whole-same, unread}
 use Rattle.message.proofs.Facts.{then-whole}
 
-module _ (s : List ℕ) where
-  -- ---- each letter goes on by a byte at least
+-- ---- a letter that is read ends past its place
 
-  past-line-end : (test : ℕ → Bool) (at : ℕ) → has test s at ≡ true → (at < lineEnd s at) × (lineEnd s at ≤ length s)
-  past-line-end test at h =
+module _ (class : ℕ → ℕ) (s : List ℕ) (at : ℕ) where
+  line-past : at < length s → (at < lineEnd s at) × (lineEnd s at ≤ length s)
+  line-past h =
       cond-cases (λ e. (at < e) × (e ≤ length s)) (has (is 13) s at && has (is 10) s (at + 1))
-      (λ t. omega (arith, has-lt (is 10) s (at + 1) (both-second (has (is 13) s at) (has (is 10) s (at + 1)) t)))
-      (λ t. omega (arith, has-lt test s at h))
+      (λ t. omega (arith, has-lt (is 10) s (at + 1) (both-second (has (is 13) s at) (has (is 10) s (at + 1)) t))) (λ t. omega arith)
 
-  past-letter : (at : ℕ) → PastCharacter (length s) at (letterAt classOf s at)
+  past-letter : PastCharacter (length s) at (letterAt class s at)
   unfolding letterAt
-  past-letter at =
-      cond-cases (PastCharacter (length s) at) (has (isText classOf) s at) (λ t. omega (arith, has-lt (isText classOf) s at t)) (λ t. past-special s at at (omega arith))
+  past-letter =
+      cond-cases (PastCharacter (length s) at) (has (isText class) s at) (λ t. omega (arith, has-lt (isText class) s at t)) (λ t. past-special s at at (omega arith))
 
-  attribute-letter-on : (at : ℕ) (c : Character) → attributeLetterAt classOf s at ≡ whole c → (at < c .end) × (c .end ≤ length s)
+  past-attribute-letter : PastCharacter (length s) at (attributeLetterAt class s at)
   unfolding attributeLetterAt
-  attribute-letter-on at c q =
-      past-whole (λ c. c .end) (length s) at q (cond-cases (PastCharacter (length s) at) (has isBreak s at) (λ t. past-line-end isBreak at t) (λ t. past-letter at))
+  past-attribute-letter =
+      cond-cases (PastCharacter (length s) at) (has isBreak s at) (λ t. line-past (has-lt isBreak s at t)) (λ t. past-letter)
 
-  text-letter-on : (at : ℕ) (c : Character) → textLetterAt classOf s at ≡ whole c → (at < c .end) × (c .end ≤ length s)
+  past-text-letter : PastCharacter (length s) at (textLetterAt class s at)
   unfolding textLetterAt
-  text-letter-on at c q =
-      past-whole (λ c. c .end) (length s) at q (cond-cases (PastCharacter (length s) at) (has (is 13) s at) (λ t. past-line-end (is 13) at t) (λ t. past-letter at))
+  past-text-letter =
+      cond-cases (PastCharacter (length s) at) (has (is 13) s at) (λ t. line-past (has-lt (is 13) s at t)) (λ t. past-letter)
 
+  pub attribute-letter-on : {c : Character} → attributeLetterAt class s at ≡ whole c → (at < c .end) × (c .end ≤ length s)
+  attribute-letter-on q = past-whole (λ c. c .end) (length s) at q past-attribute-letter
+
+  pub text-letter-on : {c : Character} → textLetterAt class s at ≡ whole c → (at < c .end) × (c .end ≤ length s)
+  text-letter-on q = past-whole (λ c. c .end) (length s) at q past-text-letter
+
+module _ (s : List ℕ) where
   -- ---- a letter by itself, as it stands and as a reference names it
 
   abbrev asByte : ℕ → Character
@@ -149,7 +155,7 @@ module _ (s : List ℕ) where
     unfolding attributeMeaning
     value-letter at c text within q rest zero some enough = absurd (omega arith)
     value-letter at c text within q rest (suc fuel) some enough =
-        let on = attribute-letter-on at c q in
+        let on = attribute-letter-on classOf s at q in
         let others = rest fuel (omega (arith, on)) (omega (arith, on)) in
         rw (lt-ltb at to within, q, others)
 
@@ -226,7 +232,7 @@ module _ (s : List ℕ) where
     unfolding contentMeaning
     content-letter at c text within n q rest zero some enough = absurd (omega arith)
     content-letter at c text within n q rest (suc fuel) some enough =
-        let on = text-letter-on at c q in
+        let on = text-letter-on classOf s at q in
         let others = rest fuel (omega (arith, on)) (omega (arith, on)) in
         rw (lt-ltb at to within, n, q, others)
 
