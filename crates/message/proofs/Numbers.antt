@@ -74,12 +74,10 @@ module _ (P : ℕ → Type 0) (class : ℕ → ℕ) (s : List ℕ) (l : Limits) 
   told-attributes zero seen at h = with (holds .nine)
   told-attributes (suc fuel) seen at h =
       let p = blanks class s at in
-      let k = length seen in
-      let on : k < p = omega (arith, ends-from (isSpace class) s at) in
       cond-cases Told (has endsTag s p) (λ t. never) (λ t.
-      refuses-after _ (told-fresh seen at p on) (λ e q.
+      refuses-after _ (told-fresh seen at p (omega (arith, ends-from (isSpace class) s at))) (λ e q.
       refuses-after _ (form-quoted P (holds .nine) s class e) (λ v r.
-      told-attributes fuel (part s p e ∷ seen) (v .to + 1) (omega (arith, fresh-on class s l seen at q, quoted-on class s r)))))
+      told-attributes fuel (part s p e ∷ seen) (v .to + 1) (omega (arith, ends-from (isSpace class) s at, fresh-on class s l seen at q, quoted-on class s r)))))
 
   told-start : (at : ℕ) → Told (startAt class s l at)
   unfolding startAt withNameAt

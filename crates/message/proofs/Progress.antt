@@ -46,8 +46,7 @@ PastCharacter = Past (λ c. c .end)
 
 module _ {A B : Type 0} (end : A → ℕ) (end′ : B → ℕ) (n k : ℕ) where
   pub past-then : (next : A → Reading B) (a : Reading A) → Past end n k a → ((x : A) → k < end x → end x ≤ n → Past end′ n k (next x)) → Past end′ n k (a >>= next)
-  past-then next (whole x) h g = g x (h .0) (h .1)
-  past-then next (refused number place) h g = tt
+  past-then next a h g = every-then (λ x. (k < end x) × (end x ≤ n)) (λ y. (k < end′ y) × (end′ y ≤ n)) next a h (λ x p. g x (p .0) (p .1))
 
 -- what is known of a reading that was whole
 pub past-whole : {A : Type 0} (end : A → ℕ) (n k : ℕ) {a : Reading A} {x : A} → a ≡ whole x → Past end n k a → (k < end x) × (end x ≤ n)
