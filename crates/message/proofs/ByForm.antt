@@ -58,8 +58,10 @@ module _ (P : ℕ → Type 0) (nine : P 9) (s : List ℕ) where
   unfolding longAt twoAt threeAt fourAt
   form-long at =
       cond-cases ByForm (has (between 194 223) s at) (λ t. refuses-then _ (form-one later (at + 1)) (λ e. never)) (λ t.
-      cond-cases ByForm (has (between 224 239) s at) (λ t. refuses-then _ (form-one (secondOfThree (byteAt s at)) (at + 1)) (λ i. refuses-then _ (form-one (thirdOfThree (byteAt s at) (byteAt s (at + 1))) i) (λ e. never)))
-      (λ t. refuses-then _ (form-one (between 240 244) at) (λ i. refuses-then _ (form-one (secondOfFour (byteAt s at)) i) (form-last-two (joined (byteAt s at - 240) (byteAt s i))))))
+      cond-cases ByForm (has (between 224 239) s at) (λ t.
+      refuses-then _ (form-one (secondOfThree (byteAt s at)) (at + 1)) (λ i.
+      refuses-then _ (form-one (thirdOfThree (byteAt s at) (byteAt s (at + 1))) i) (λ e. never))) (λ t.
+      refuses-then _ (form-one (between 240 244) at) (λ i. refuses-then _ (form-one (secondOfFour (byteAt s at)) i) (form-last-two (joined (byteAt s at - 240) (byteAt s i))))))
 
   form-digits : (fuel base n at : ℕ) → ByForm (digitsAt fuel base n s at)
   unfolding digitsAt

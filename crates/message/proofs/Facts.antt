@@ -91,7 +91,8 @@ module _ (class : ℕ → ℕ) (s : List ℕ) (l : Limits) where
 
     -- content that was read has what its end has, and each element before it keeps
     pub content-every : (P : ℕ → Content → Type 0)
-        → ((at stop e : ℕ) → freeAt class s (length s) at ≡ whole stop → has (is 47) s (stop + 1) ≡ true → endTagAt class s l (st .begin) (st .name) (stop + 2) ≡ whole e → P at (closed stop e))
+        → ((at stop e : ℕ) → freeAt class s (length s) at ≡ whole stop → has (is 47) s (stop + 1) ≡ true
+        → endTagAt class s l (st .begin) (st .name) (stop + 2) ≡ whole e → P at (closed stop e))
         → ((at stop : ℕ) (e : Element) (c : Content) → freeAt class s (length s) at ≡ whole stop → child stop ≡ whole e → P (e .tag .end) c → P at (nested e c))
         → (fuel at : ℕ) (c : Content) → contentAt class s l fuel child st at ≡ whole c → P at c
     unfolding contentAt
@@ -154,11 +155,14 @@ module _ (class : ℕ → ℕ) (s : List ℕ) (l : Limits) where
   rest-stands child begins at st so =
       rest-cases child st (Stands child at)
       (λ t. record { begins = so .begins; named = so .named; attributed = so .attributed; inner = tt })
-      (λ c q. record { begins = so .begins; named = so .named; attributed = so .attributed; inner = content-every child st (λ from c. Reads child (c .inside)) (λ from stop e f t h. tt) again (length s) (st .from) c q })
+      (λ c q. record { begins = so .begins; named = so .named; attributed = so .attributed; inner = all c q })
     where
       again : (from stop : ℕ) (e : Element) (c : Content) → freeAt class s (length s) from ≡ whole stop → child stop ≡ whole e → Reads child (c .inside)
           → (child (e .tag .begin - 1) ≡ whole e) × Reads child (c .inside)
       again from stop e c f h others = (ap child (omega (arith, begins stop e h)) ∙ h, others)
+
+      all : (c : Content) → contentAt class s l (length s) child st (st .from) ≡ whole c → Reads child (c .inside)
+      all = content-every child st (λ from c. Reads child (c .inside)) (λ from stop e f t h. tt) again (length s) (st .from)
 
   -- below the last level nothing is read
   pub none-deep : (at : ℕ) (e : Element) → elementAt class s l 0 at ≡ whole e → ⊥

@@ -1,7 +1,7 @@
 -- What is read whole ends past where it began and within the message, so the loops of the code end, and the fuel of the readers of specs/ is enough.
 -- Assumes nothing.
 use Prim.Native.Nat.{ℕ, zero, suc, _+_, _-_, _*_, _<_, _≤_}
-use mathlib.Core.Path.{_≡_, sym, _∙_, subst}
+use mathlib.Core.Path.{_≡_, refl, sym, _∙_, subst}
 use mathlib.Core.Bool.{Bool, true, _&&_}
 use mathlib.Core.List.{List, [], _∷_}
 use native.Mathlib.Omega.{arith}
@@ -24,8 +24,8 @@ every-then P Q next (whole x) h g = g x h
 every-then P Q next (refused number place) h g = tt
 
 -- whatever the first has read
-pub every-on : {A B : Type 0} (Q : B → Type 0) (next : A → Reading B) (a : Reading A) → ((x : A) → Every Q (next x)) → Every Q (a >>= next)
-every-on Q next (whole x) g = g x
+pub every-on : {A B : Type 0} (Q : B → Type 0) (next : A → Reading B) (a : Reading A) → ((x : A) → a ≡ whole x → Every Q (next x)) → Every Q (a >>= next)
+every-on Q next (whole x) g = g x refl
 every-on Q next (refused number place) g = tt
 
 -- what follows from it

@@ -28,7 +28,8 @@ pub unread : {A B : Type 0} {x : A} {n p : ℕ} → refused n p ≡ whole x → 
 unread e = let z : _≡_ {A = ℕ} 0 1 = cc in absurd (omega arith)
 
 -- what holds of one byte and then another reading
-pub one-cases : {B : Type 0} (P : Reading B → Type 0) (test : ℕ → Bool) (s : List ℕ) (at : ℕ) (next : ℕ → Reading B) → (has test s at ≡ true → P (next (at + 1))) → P (refused 9 at) → P (one test s at >>= next)
+pub one-cases : {B : Type 0} (P : Reading B → Type 0) (test : ℕ → Bool) (s : List ℕ) (at : ℕ) (next : ℕ → Reading B)
+    → (has test s at ≡ true → P (next (at + 1))) → P (refused 9 at) → P (one test s at >>= next)
 one-cases P test s at next f g = go (has test s at) refl
   where
     go : (t : Bool) → has test s at ≡ t → P (one test s at >>= next)
@@ -54,6 +55,10 @@ Behind s k end = Past end (length s) k
 
 abbrev place : ℕ → ℕ
 place e = e
+
+-- a `<` stands at the place, which is not before k
+abbrev Stops : List ℕ → ℕ → ℕ → Type 0
+Stops s k stop = (k ≤ stop) × (has (is 60) s stop ≡ true)
 
 module _ (class : ℕ → ℕ) (s : List ℕ) (k : ℕ) where
   -- ---- names
@@ -96,9 +101,9 @@ module _ (class : ℕ → ℕ) (s : List ℕ) (k : ℕ) where
 
   -- ---- text and comments
 
-  -- text stops at a `<`, not before where it began
+  -- text stops at a `<`
   abbrev AtTag : Reading ℕ → Type 0
-  AtTag = Every (λ stop. (k ≤ stop) × (has (is 60) s stop ≡ true))
+  AtTag = Every (Stops s k)
 
   text-stops : (fuel at : ℕ) → k ≤ at → AtTag (textAt class fuel s at)
   unfolding textAt
@@ -107,16 +112,16 @@ module _ (class : ℕ → ℕ) (s : List ℕ) (k : ℕ) where
       let stop = ends (isPlain class) s at in
       let on : k ≤ stop = omega (arith, ends-from (isPlain class) s at) in
       cond-cases AtTag (has (is 60) s stop) (λ t. (on, t)) (λ t.
-      every-then (λ e. (k < e) × (e ≤ length s)) (λ stop. (k ≤ stop) × (has (is 60) s stop ≡ true)) _ (beyondPlainAt class s stop) (past-beyond-plain s k class stop on) (λ e p.
+      every-then (λ e. (k < e) × (e ≤ length s)) (Stops s k) _ (beyondPlainAt class s stop) (past-beyond-plain s k class stop on) (λ e p.
       text-stops fuel e (omega (arith, p .0))))
 
   free-stops : (fuel at : ℕ) → k ≤ at → AtTag (freeAt class s fuel at)
   unfolding freeAt
   free-stops zero at h = tt
   free-stops (suc fuel) at h =
-      every-then (λ stop. (k ≤ stop) × (has (is 60) s stop ≡ true)) (λ stop. (k ≤ stop) × (has (is 60) s stop ≡ true)) _ (textAt class (length s) s at) (text-stops (length s) at h) (λ stop p.
+      every-then (Stops s k) (Stops s k) _ (textAt class (length s) s at) (text-stops (length s) at h) (λ stop p.
       cond-cases AtTag (has (is 33) s (stop + 1))
-      (λ t. every-then (λ e. (k < e) × (e ≤ length s)) (λ stop. (k ≤ stop) × (has (is 60) s stop ≡ true)) _ (bangAt class s stop) (past-bang class s k stop (p .0)) (λ e q. free-stops fuel e (omega (arith, q .0))))
+      (λ t. every-then (λ e. (k < e) × (e ≤ length s)) (Stops s k) _ (bangAt class s stop) (past-bang class s k stop (p .0)) (λ e q. free-stops fuel e (omega (arith, q .0))))
       (λ t. cond-cases AtTag (has (is 63) s (stop + 1)) (λ u. tt) (λ u. p)))
 
 -- ---- what is known of a reading that was whole
@@ -142,32 +147,43 @@ module _ (class : ℕ → ℕ) (s : List ℕ) where
   pub quoted-on : {at : ℕ} {v : Quoted} → quotedAt class s at ≡ whole v → (at < v .from) × (v .from ≤ v .to) × (v .to < length s)
   quoted-on {at} q = subst (Every (Quoting at)) q (quoted-every at)
 
-  -- a name that is taken is in the message, and was not one too many
-  abbrev pub Fresh : Limits → List (List ℕ) → ℕ → ℕ → Type 0
-  Fresh l seen p e = (p < e) × (e ≤ length s) × (length seen < l .attributes)
+  -- the name of one more attribute: white space stands before it, and it was not one too many
+  pub record Fresh (l : Limits) (seen : List (List ℕ)) (at p e : ℕ) : Type 0 where
+    pub space : has (isSpace class) s at ≡ true
+    pub room : length seen < l .attributes
+    pub name : Named
+    pub named : nameAt class (l .part) s p ≡ whole name
+    pub ends : e ≡ name .end
 
-  fresh-every : (l : Limits) (seen : List (List ℕ)) (at p : ℕ) → Every (Fresh l seen p) (freshAt class s l seen at p)
+  fresh-every : (l : Limits) (seen : List (List ℕ)) (at p : ℕ) → Every (Fresh l seen at p) (freshAt class s l seen at p)
   unfolding freshAt
   fresh-every l seen at p =
-      every-on (Fresh l seen p) _ (one (isSpace class) s at) (λ space.
-      every-on (Fresh l seen p) _ (one (isStart class) s p) (λ begin.
-      every-then (λ room. length seen < l .attributes) (Fresh l seen p) _ (cond (ltb (length seen) (l .attributes)) (whole p) (refused 11 p)) (
-      cond-cases (Every (λ room. length seen < l .attributes)) (ltb (length seen) (l .attributes)) (λ t. ltb-true (length seen) (l .attributes) t) (λ t. tt)) (λ room fewer.
-      every-then (λ n. (p < n .end) × (n .end ≤ length s)) (Fresh l seen p) _ (nameAt class (l .part) s p) (past-name class s p (l .part) p (omega arith)) (λ name q.
-      cond-cases (Every (Fresh l seen p)) (isKnown (part s p (name .end)) seen) (λ t. tt) (λ t. (q .0, q .1, fewer))))))
+      one-cases (Every (Fresh l seen at p)) (isSpace class) s at _ (λ space.
+      every-on (Fresh l seen at p) _ (one (isStart class) s p) (λ begin q.
+      every-then (λ room. length seen < l .attributes) (Fresh l seen at p) _ (cond (ltb (length seen) (l .attributes)) (whole p) (refused 11 p)) (
+      cond-cases (Every (λ room. length seen < l .attributes)) (ltb (length seen) (l .attributes)) (λ t. ltb-true (length seen) (l .attributes) t) (λ t. tt)) (λ p′ room.
+      every-on (Fresh l seen at p) _ (nameAt class (l .part) s p) (λ name named.
+      cond-cases (Every (Fresh l seen at p)) (isKnown (part s p (name .end)) seen) (λ t. tt) (λ t.
+      record { space = space; room = room; name = name; named = named; ends = refl }))))) tt
 
-  pub fresh-on : (l : Limits) (seen : List (List ℕ)) (at : ℕ) {p e : ℕ} → freshAt class s l seen at p ≡ whole e → Fresh l seen p e
-  fresh-on l seen at {p} q = subst (Every (Fresh l seen p)) q (fresh-every l seen at p)
+  pub fresh-whole : (l : Limits) (seen : List (List ℕ)) (at p e : ℕ) → freshAt class s l seen at p ≡ whole e → Fresh l seen at p e
+  fresh-whole l seen at p e q = subst (Every (Fresh l seen at p)) q (fresh-every l seen at p)
+
+  fresh-past : (l : Limits) (seen : List (List ℕ)) (at : ℕ) {p e : ℕ} → Fresh l seen at p e → (p < e) × (e ≤ length s)
+  fresh-past l seen at f = omega (arith, name-on (l .part) (f .named), f .ends)
+
+  pub fresh-on : (l : Limits) (seen : List (List ℕ)) (at : ℕ) {p e : ℕ} → freshAt class s l seen at p ≡ whole e → (p < e) × (e ≤ length s) × (length seen < l .attributes)
+  fresh-on l seen at {p} {e} q = let f = fresh-whole l seen at p e q in let on = fresh-past l seen at f in (on .0, on .1, f .room)
 
   -- text that is read whole stops at a `<`
   pub text-whole : (at stop : ℕ) → textAt class (length s) s at ≡ whole stop → (at ≤ stop) × (stop < length s)
   text-whole at stop q =
-      let x = subst (Every (λ e. (at ≤ e) × (has (is 60) s e ≡ true))) q (text-stops class s at (length s) at (omega arith)) in
+      let x = subst (Every (Stops s at)) q (text-stops class s at (length s) at (omega arith)) in
       (x .0, has-lt (is 60) s stop (x .1))
 
   -- and so do text and comments
   pub free-mark : (at stop : ℕ) → freeAt class s (length s) at ≡ whole stop → (at ≤ stop) × (has (is 60) s stop ≡ true)
-  free-mark at stop q = subst (Every (λ e. (at ≤ e) × (has (is 60) s e ≡ true))) q (free-stops class s at (length s) at (omega arith))
+  free-mark at stop q = subst (Every (Stops s at)) q (free-stops class s at (length s) at (omega arith))
 
   pub free-whole : (at stop : ℕ) → freeAt class s (length s) at ≡ whole stop → (at ≤ stop) × (stop < length s)
   free-whole at stop q = let x = free-mark at stop q in (x .0, has-lt (is 60) s stop (x .1))
@@ -179,7 +195,6 @@ module _ (class : ℕ → ℕ) (s : List ℕ) (k : ℕ) where
   past-quoted at h =
       every-so (Quoting class s at) (λ v. (k < v .to) × (v .to ≤ length s)) (λ v q. omega (arith, q .0, q .1, q .2)) (quotedAt class s at) (quoted-every class s at)
 
-
   past-start-end : (b : ℕ) (n : Named) (at : ℕ) → k < at → Behind s k (λ st. st .from) (startEndAt s b n at)
   unfolding startEndAt
   past-start-end b n at h =
@@ -189,7 +204,8 @@ module _ (class : ℕ → ℕ) (s : List ℕ) (k : ℕ) where
 
   module _ (l : Limits) where
     pub past-fresh : (seen : List (List ℕ)) (at p : ℕ) → k < p → Behind s k place (freshAt class s l seen at p)
-    past-fresh seen at p h = every-so (Fresh class s l seen p) (λ e. (k < e) × (e ≤ length s)) (λ e f. omega (arith, f .0, f .1)) (freshAt class s l seen at p) (fresh-every class s l seen at p)
+    past-fresh seen at p h =
+        every-so (Fresh class s l seen at p) (λ e. (k < e) × (e ≤ length s)) (λ e f. omega (arith, fresh-past class s l seen at f)) (freshAt class s l seen at p) (fresh-every class s l seen at p)
 
     pub past-attributes : (fuel : ℕ) (seen : List (List ℕ)) (at : ℕ) → k < at → Behind s k place (attributesAt class s l fuel seen at)
     unfolding attributesAt
@@ -216,7 +232,7 @@ module _ (class : ℕ → ℕ) (s : List ℕ) (k : ℕ) where
     unfolding endPartAt
     past-end-part w at h =
         one-cases (Behind s k place) (is (getD w 0 0)) s at _ (λ t.
-        every-on (λ e. (k < e) × (e ≤ length s)) _ (shortAt class (l .part) s at) (λ short. past-word s k w at h (omega (arith, has-lt (is (getD w 0 0)) s at t)))) tt
+        every-on (λ e. (k < e) × (e ≤ length s)) _ (shortAt class (l .part) s at) (λ short q. past-word s k w at h (omega (arith, has-lt (is (getD w 0 0)) s at t)))) tt
 
     past-end-name : (b : ℕ) (n : Named) (at : ℕ) → k < at → Behind s k place (endNameAt class s l b n at)
     unfolding endNameAt
@@ -237,7 +253,7 @@ module _ (class : ℕ → ℕ) (s : List ℕ) (k : ℕ) where
       unfolding contentAt
       past-content zero at h = tt
       past-content (suc fuel) at h =
-          every-then (λ stop. (k ≤ stop) × (has (is 60) s stop ≡ true)) (λ c. (k < c .end) × (c .end ≤ length s)) _ (freeAt class s (length s) at) (free-stops class s k (length s) at (omega arith)) (λ stop p.
+          every-then (Stops s k) (λ c. (k < c .end) × (c .end ≤ length s)) _ (freeAt class s (length s) at) (free-stops class s k (length s) at (omega arith)) (λ stop p.
           cond-cases (Behind s k (λ c. c .end)) (has (is 47) s (stop + 1))
           (λ t. past-then place (λ c. c .end) (length s) k _ (endTagAt class s l (start .begin) (start .name) (stop + 2)) (past-end-tag (start .begin) (start .name) (stop + 2) (omega (arith, p .0))) (λ e q q′. (q, q′)))
           (λ t. past-then (λ e. e .tag .end) (λ c. c .end) (length s) k _ (child stop) (grows stop (p .0)) (λ e q q′.
