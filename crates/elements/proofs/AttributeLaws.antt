@@ -1,23 +1,20 @@
--- The attributes of a start tag: where what is read ends, and the loops over attributes. Assumes nothing.
-use Prim.Native.Nat.{ℕ, zero, suc, _+_, _-_, _<_, _≤_}
-use mathlib.Core.Path.{_≡_, refl, sym, _∙_, ap, subst}
+-- The attributes of a start tag: the loops over them. Assumes nothing.
+use Prim.Native.Nat.{ℕ, suc, _+_, _<_, _≤_}
+use mathlib.Core.Path.{_≡_, refl, sym, _∙_, ap}
 use mathlib.Core.Bool.{Bool, true, false, cond, _||_}
 use mathlib.Core.List.{List, [], _∷_}
 use native.Mathlib.Omega.{arith}
 use lib.ListN.{length, set}
-use lib.Dec.{ltb}
-use borrow.Author.Tests.{le-leb, ltb-true, eqb-true}
 use Rattle.laws.specs.Bytes.{sameBytes}
-use Rattle.message.specs.Class.{isStart, isName, isSpace, isPlain}
-use Rattle.message.specs.Reading.{Reading, _>>=_, is, byteAt, has, one, ends, blanks, isQuote, equalsAt, openedAt}
+use Rattle.message.specs.Class.{isStart, isSpace}
+use Rattle.message.specs.Reading.{Reading, _>>=_, is, has, blanks}
 use Rattle.message.specs.Reading.Reading.{whole, refused}
-use Rattle.message.specs.Names.{Named, shortAt, partAt, nameAt}
-use Rattle.message.specs.Text.{beyondPlainInAt, valueAt}
-use Rattle.message.proofs.Laws.{went, stopped, cond-true, cond-false, cond-cases, has-in, has-out, has-lt, has-byte, has-or, one-no, ends-le, ends-from, ends-after, ends-more, ends-out}
-use Rattle.message.proofs.Progress.{Every, every-then, PastPlace, Past, past-then, past-whole, past-one, past-beyond-plain-in}
+use Rattle.message.specs.Names.{Named, partAt, nameAt}
+use Rattle.message.proofs.Laws.{went, stopped, cond-true, cond-false, has-out, has-or, one-no, ends-after, ends-out}
 use Rattle.message.proofs.Loops.{Fuelled, Left, left-first, left-on, left-done}
+use Rattle.message.proofs.Trees.{name-on, quoted-on, fresh-on}
 use Rattle.message.specs.Limits.{Limits}
-use Rattle.message.specs.Elements.{part, Quoted, isKnown, endsTag, quotedAt, freshAt, attributesAt}
+use Rattle.message.specs.Elements.{part, Quoted, endsTag, quotedAt, freshAt, attributesAt}
 use Rattle.elements.specs.Held.{names, spanSaid}
 use Rattle.message.specs.Messages.{attributeCalled}
 use Rattle.elements.specs.declared.attributes.Span.{Span}
@@ -44,93 +41,11 @@ module _ (s : List ℕ) (at : ℕ) where
       go true = refl
       go false = refl
 
--- ---- What is read whole ends past where it began, and within the message.
-
 module _ (class : ℕ → ℕ) (s : List ℕ) where
-  past-opened : (k at : ℕ) → k ≤ at → PastPlace (length s) k (openedAt class s at)
-  unfolding openedAt equalsAt
-  past-opened k at h =
-      past-then (λ e. e) (λ e. e) (length s) k _ (equalsAt class s at) (
-      past-then (λ e. e) (λ e. e) (length s) k _ (one (is 61) s (blanks class s at)) (past-one s k (is 61) (blanks class s at) (omega (arith, ends-from (isSpace class) s at))) (λ next p q.
-      omega (arith, p, ends-from (isSpace class) s next, ends-le (isSpace class) s next q))) (λ mark p q.
-      past-one s k isQuote mark (omega arith))
-
-  -- a value begins behind its quotation mark, which is then in the message
-  pub opened-on : {at from : ℕ} → openedAt class s at ≡ whole from → (at < from) × (from ≤ length s)
-  opened-on {at} q = past-whole (λ e. e) (length s) at q (past-opened at at (omega arith))
-
-  value-every : (quote k fuel at : ℕ) → k ≤ at → Every (λ to. (k ≤ to) × (to < length s)) (valueAt class fuel quote s at)
-  unfolding valueAt
-  value-every quote k zero at h = tt
-  value-every quote k (suc fuel) at h =
-      let stop = ends (isPlain class) s at in
-      let on : k ≤ stop = omega (arith, ends-from (isPlain class) s at) in
-      cond-cases (Every (λ to. (k ≤ to) × (to < length s))) (has (is quote) s stop) (λ t. (on, has-lt (is quote) s stop t)) (λ t.
-      every-then (λ e. (k < e) × (e ≤ length s)) (λ to. (k ≤ to) × (to < length s)) _ (beyondPlainInAt class s stop) (past-beyond-plain-in s k class stop on) (λ e p.
-      value-every quote k fuel e (omega (arith, p .0))))
-
-  quoted-every : (at : ℕ) → Every (λ v. (at < v .from) × (v .from ≤ v .to) × (v .to < length s)) (quotedAt class s at)
-  unfolding quotedAt
-  quoted-every at =
-      every-then (λ e. (at < e) × (e ≤ length s)) (λ v. (at < v .from) × (v .from ≤ v .to) × (v .to < length s)) _ (openedAt class s at) (past-opened at at (omega arith)) (λ begin p.
-      every-then (λ to. (begin ≤ to) × (to < length s)) (λ v. (at < v .from) × (v .from ≤ v .to) × (v .to < length s)) _ (valueAt class (length s) (byteAt s (begin - 1)) s begin) (value-every (byteAt s (begin - 1)) begin (length s) begin (omega arith)) (λ stop q.
-      (p .0, q .0, q .1)))
-
-  pub quoted-on : {at : ℕ} {v : Quoted} → quotedAt class s at ≡ whole v → (at < v .from) × (v .from ≤ v .to) × (v .to < length s)
-  quoted-on {at} q = subst (Every (λ v. (at < v .from) × (v .from ≤ v .to) × (v .to < length s))) q (quoted-every at)
-
-  -- what begins a name is part of it
-  start-in-name : (at : ℕ) → has (isStart class) s at ≡ true → at < ends (isName class) s at
-  start-in-name at h =
-      let begins = eqb-true (class (byteAt s at)) _ (has-byte (isStart class) s at h) in
-      let in-name : has (isName class) s at ≡ true = has-in (isName class) s at (has-lt (isStart class) s at h) ∙ le-leb _ (class (byteAt s at)) (omega (arith, begins)) in
-      omega (arith, ends-more (isName class) s at in-name, ends-from (isName class) s (at + 1))
-
-  module _ (most k : ℕ) where
-    past-part : (at : ℕ) → k ≤ at → PastPlace (length s) k (partAt class most s at)
-    unfolding partAt one shortAt
-    past-part at h = go (has (isStart class) s at) refl
-      where
-        short : at < ends (isName class) s at → at < length s → PastPlace (length s) k (shortAt class most s at)
-        short p l =
-            cond-cases (PastPlace (length s) k) (ltb most (ends (isName class) s at - at)) (λ t. tt) (λ t.
-            omega (arith, p, ends-le (isName class) s at (omega arith)))
-
-        go : (t : Bool) → has (isStart class) s at ≡ t → PastPlace (length s) k (cond t (whole (at + 1)) (refused 9 at) >>= (λ next. shortAt class most s at))
-        go true t = short (start-in-name at t) (has-lt (isStart class) s at t)
-        go false t = tt
-
-    past-name : (at : ℕ) → k ≤ at → Past (λ n. n .end) (length s) k (nameAt class most s at)
-    unfolding nameAt
-    past-name at h =
-        past-then (λ e. e) (λ n. n .end) (length s) k _ (partAt class most s at) (past-part at h) (λ first p q.
-        cond-cases (Past (λ n. n .end) (length s) k) (has (is 58) s first) (λ t.
-        past-then (λ e. e) (λ n. n .end) (length s) k _ (partAt class most s (first + 1)) (past-part (first + 1) (omega arith)) (λ last p′ q′. (p′, q′))) (λ t. (p, q)))
-
-  name-on : (most : ℕ) {at : ℕ} {n : Named} → nameAt class most s at ≡ whole n → (at < n .end) × (n .end ≤ length s)
-  name-on most {at} q = past-whole (λ n. n .end) (length s) at q (past-name most at at (omega arith))
-
-  -- a name that is taken is in the message, and was not one too many
-  abbrev pub Fresh : Limits → List (List ℕ) → ℕ → ℕ → Type 0
-  Fresh l seen p e = (p < e) × (e ≤ length s) × (length seen < l .attributes)
-
-  fresh-every : (l : Limits) (seen : List (List ℕ)) (at p : ℕ) → Every (Fresh l seen p) (freshAt class s l seen at p)
-  unfolding freshAt
-  fresh-every l seen at p =
-      every-then (λ e. (0 < e) × (e ≤ length s)) (Fresh l seen p) _ (one (isSpace class) s at) (past-one s 0 (isSpace class) at (omega arith)) (λ space h.
-      every-then (λ e. (0 < e) × (e ≤ length s)) (Fresh l seen p) _ (one (isStart class) s p) (past-one s 0 (isStart class) p (omega arith)) (λ begin h′.
-      every-then (λ room. length seen < l .attributes) (Fresh l seen p) _ (cond (ltb (length seen) (l .attributes)) (whole p) (refused 11 p)) (
-      cond-cases (Every (λ room. length seen < l .attributes)) (ltb (length seen) (l .attributes)) (λ t. ltb-true (length seen) (l .attributes) t) (λ t. tt)) (λ room fewer.
-      every-then (λ n. (p < n .end) × (n .end ≤ length s)) (Fresh l seen p) _ (nameAt class (l .part) s p) (past-name (l .part) p p (omega arith)) (λ name q.
-      cond-cases (Every (Fresh l seen p)) (isKnown (part s p (name .end)) seen) (λ t. tt) (λ t. (q .0, q .1, fewer))))))
-
-  pub fresh-on : (l : Limits) (seen : List (List ℕ)) (at : ℕ) {p e : ℕ} → freshAt class s l seen at p ≡ whole e → Fresh l seen p e
-  fresh-on l seen at {p} q = subst (Every (Fresh l seen p)) q (fresh-every l seen at p)
-
-  -- the same beside names held in two arrays
+  -- a name that is taken beside names held in two arrays is in the message, and was not one too many
   pub fresh-held : (l : Limits) (starts stops : List ℕ) (n at : ℕ) {p e : ℕ} → freshAt class s l (names s starts stops n) at p ≡ whole e → (p < e) × (e ≤ length s) × (n < l .attributes)
   fresh-held l starts stops n at q =
-      let f = fresh-on l (names s starts stops n) at q in
+      let f = fresh-on class s l (names s starts stops n) at q in
       (f .0, f .1, rw (length-names s starts stops n) at (f .2))
 
   -- ---- the loop over the attributes: at the names of those before, and at the place behind them
@@ -185,7 +100,7 @@ module _ (class : ℕ → ℕ) (s : List ℕ) where
 
         pub attributes-on : {v : Quoted} → quotedAt class s e ≡ whole v → Left (attributes l) answer (part s p e ∷ seen, v .to + 1)
         attributes-on {v} q =
-            left-on (attributes l) (part s p e ∷ seen, v .to + 1) refl (omega (arith, ends-after (isSpace class) s i p-is, fresh-on l seen i named, quoted-on q)) (λ next.
+            left-on (attributes l) (part s p e ∷ seen, v .to + 1) refl (omega (arith, ends-after (isSpace class) s i p-is, fresh-on class s l seen i named, quoted-on class s q)) (λ next.
             went _ q ∙ went _ named ∙ cond-false _ more ∙ at-p next) left
 
   -- the name that was read is held as one more
@@ -245,7 +160,7 @@ module _ (class : ℕ → ℕ) (s : List ℕ) where
         called-found t = left-done (lookup l w) (λ next. cond-true _ t ∙ went _ valued ∙ went _ named ∙ called-at-p next) left
 
         pub called-further : i < v .to + 1
-        called-further = omega (arith, ends-after (isSpace class) s i p-is, name-on (l .part) named, quoted-on valued)
+        called-further = omega (arith, ends-after (isSpace class) s i p-is, name-on class s (l .part) named, quoted-on class s valued)
 
         pub called-on : sameBytes (part s p (name .end)) w ≡ false → Left (lookup l w) answer (v .to + 1)
         called-on t =

@@ -18,6 +18,7 @@ use Rattle.message.specs.Elements.Elements.{none, more}
 use Rattle.elements.specs.Seen.{count, nothingInside, markOf, typedIn, insideOf, seenOf, seen, noted}
 use Rattle.elements.specs.Held.{nameOf, startedSaid, typeMark, emptySeen, closing}
 use Rattle.message.proofs.Trees.{whole-same, free-out, element-on}
+use Rattle.message.proofs.Facts.{then-whole, then-same, refused-then}
 use Rattle.elements.specs.declared.content.Started.{Started}
 use Rattle.elements.specs.declared.content.Start as starts
 use Rattle.elements.specs.declared.Inside.{Inside}
@@ -28,10 +29,6 @@ use Rattle.elements.specs.declared.Seen.{Seen}
 pub then-then : {A B C : Type 0} (a : Reading A) (f : A → Reading B) (g : B → Reading C) → ((a >>= f) >>= g) ≡ (a >>= (λ x. f x >>= g))
 then-then (whole x) f g = refl
 then-then (refused n p) f g = refl
-
-pub then-same : {A B : Type 0} (a : Reading A) {f g : A → Reading B} → ((x : A) → f x ≡ g x) → (a >>= f) ≡ (a >>= g)
-then-same (whole x) h = h x
-then-same (refused n p) h = refl
 
 -- ---- what is held on to
 
@@ -105,7 +102,7 @@ module _ (class : ℕ → ℕ) (s : List ℕ) (child : ℕ → Reading Element) 
 
   pub content-turn : (fuel : ℕ) (p : Standing) → readsContent (suc fuel) p ≡ contentStep p (readsContent fuel)
   unfolding contentAt closing
-  content-turn fuel p = then-then (freeAt class s (length s) (p .at)) _ _ ∙ then-same (freeAt class s (length s) (p .at)) (λ stop. go stop (has (is 47) s (stop + 1)))
+  content-turn fuel p = then-then (freeAt class s (length s) (p .at)) _ _ ∙ then-same _ _ (freeAt class s (length s) (p .at)) (λ stop q. go stop (has (is 47) s (stop + 1)))
     where
       whole-content : Content → Reading Seen
       whole-content c = whole (filled (p .inside) c)
@@ -116,7 +113,7 @@ module _ (class : ℕ → ℕ) (s : List ℕ) (child : ℕ → Reading Element) 
           >>= whole-content)
           ≡ cond t (closing class s start stop (p .inside)) (child stop >>= (λ e. readsContent fuel (record { at = e .tag .end; inside = noted (p .inside) (seenOf s e) })))
       go stop true = then-then (endTagAt class s linkLimits (start .begin) (nameOf start) (stop + 2)) _ _
-      go stop false = then-then (child stop) _ _ ∙ then-same (child stop) (λ e. then-then (contentAt class s linkLimits fuel child opened (e .tag .end)) _ _)
+      go stop false = then-then (child stop) _ _ ∙ then-same _ _ (child stop) (λ e q. then-then (contentAt class s linkLimits fuel child opened (e .tag .end)) _ _)
 
   pub content-ended : (p : Standing) → length s ≤ p .at → readsContent 0 p ≡ contentStep p (readsContent 0)
   unfolding contentAt
@@ -138,7 +135,7 @@ module _ (class : ℕ → ℕ) (s : List ℕ) (child : ℕ → Reading Element) 
   pub content-asked : start .empty ≡ false → readsContent (length s) (record { at = start .from; inside = nothingInside }) ≡ seen s (restAt class s linkLimits child opened)
   unfolding restAt
   content-asked h =
-      then-same (contentAt class s linkLimits (length s) child opened (start .from)) (λ c. ap (λ (i : Inside). whole (record { begin = start .begin; from = start .from; to = c .to; end = c .end; mark = typeMark s start; inside = i })) (add-all s (c .inside)))
+      then-same _ _ (contentAt class s linkLimits (length s) child opened (start .from)) (λ c q. ap (λ (i : Inside). whole (record { begin = start .begin; from = start .from; to = c .to; end = c .end; mark = typeMark s start; inside = i })) (add-all s (c .inside)))
       ∙ sym (then-then (contentAt class s linkLimits (length s) child opened (start .from)) (λ c. whole (element c)) (λ e. whole (seenOf s e)))
       ∙ ap (seen s) (cond-false _ h)
     where
@@ -154,18 +151,10 @@ module _ (class : ℕ → ℕ) (s : List ℕ) (child : ℕ → Reading Element) 
 
 module _ (s : List ℕ) (a : Reading Element) where
   pub seen-whole : {x : Seen} → seen s a ≡ whole x → (e : Element) × (a ≡ whole e) × (x ≡ seenOf s e)
-  seen-whole {x} q = go a q
-    where
-      go : (a : Reading Element) → seen s a ≡ whole x → (e : Element) × (a ≡ whole e) × (x ≡ seenOf s e)
-      go (whole e) h = (e, refl, sym (whole-same h))
-      go (refused n p) h = let z : _≡_ {A = ℕ} 0 1 = cc in absurd (omega arith)
+  seen-whole {x} q = let y = then-whole (λ e. whole (seenOf s e)) a x q in (y .0, y .1, sym (whole-same (y .2)))
 
   pub seen-refused : {n p : ℕ} → seen s a ≡ refused n p → a ≡ refused n p
-  seen-refused {n} {p} q = go a q
-    where
-      go : (a : Reading Element) → seen s a ≡ refused n p → a ≡ refused n p
-      go (whole e) h = let z : _≡_ {A = ℕ} 0 1 = cc in absurd (omega arith)
-      go (refused n′ p′) h = let y : n′ ≡ n = cc in let z : p′ ≡ p = cc in rw (y, z)
+  seen-refused q = refused-then a (seenOf s) q
 
 -- ---- the turns of the loop
 

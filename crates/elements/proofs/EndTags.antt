@@ -1,25 +1,28 @@
 -- Laws of a name that an end tag repeats: how far it is repeated, and that a name which is repeated whole, with `>` behind it, is read as the end tag
 -- reads it. Assumes nothing.
-use Prim.Native.Nat.{ℕ, zero, suc, _+_, _-_, _<_, _≤_}
+use Prim.Native.Nat.{ℕ, _+_, _-_, _<_, _≤_}
 use mathlib.Core.Path.{_≡_, refl, sym, _∙_, ap, subst}
-use mathlib.Core.Bool.{Bool, true, false, true≢false}
-use mathlib.Core.List.{List, _∷_, _++_}
+use mathlib.Core.Bool.{true, false}
+use mathlib.Core.List.{List, _∷_}
 use native.Mathlib.Omega.{arith}
 use native.Mathlib.Decide.{decLt}
 use lib.ListN.{length}
+use lib.Seq.{length-slice}
 use lib.Dec.{ltb}
-use borrow.Author.Tests.{ltb-false, eq-eqb, ne-eqb, eqb-true}
+use borrow.Author.Tests.{ltb-false, eq-eqb, ne-eqb}
 use Rattle.message.specs.Class.{isStart, isName, isSpace}
-use Rattle.message.specs.Reading.{_>>=_, isWhole, is, byteAt, has, one, ends, wordAt}
+use Rattle.message.specs.Reading.{_>>=_, isWhole, is, has, one, ends, wordAt}
 use Rattle.message.specs.Reading.Reading.{whole}
 use Rattle.message.specs.Names.{shortAt, partAt, nameAt}
-use Rattle.message.proofs.Laws.{went, cond-true, cond-false, cond-cases, has-in, has-lt, has-byte, one-yes, ends-le, ends-from, ends-more, ends-stop}
+use Rattle.message.proofs.Laws.{went, cond-true, cond-false, cond-cases, has-lt, one-yes, ends-le, ends-stop}
 use Rattle.message.proofs.Progress.{Every, every-then}
 use Rattle.message.specs.Limits.{linkLimits}
 use Rattle.message.specs.Elements.{part, endPartAt, endNameAt, endTagAt}
 use Rattle.elements.specs.Held.{NameStands}
-use Rattle.message.proofs.Parts.{part-none, part-some}
-use Rattle.elements.proofs.Repeats.{Repeated, behind-run, byte-known, has-known, part-by-word, part-passes, part-size, whole-first, word-append, word-here, word-on, word-repeated, word-within}
+use Rattle.message.proofs.Parts.{part-some, part-split}
+use Rattle.message.proofs.Runs.{byte-is, has-known, word-begins, ends-fails, start-in-name}
+use Rattle.message.proofs.Trees.{one-cases}
+use Rattle.elements.proofs.Repeats.{Repeated, part-by-word, part-passes, whole-first, word-append, word-on, word-repeated, word-within}
 
 -- ---- a name that has been read
 
@@ -31,29 +34,17 @@ record PartStands (class : ℕ → ℕ) (s : List ℕ) (b e : ℕ) : Type 0 wher
   pub short : e - b ≤ 64
 
 module _ (class : ℕ → ℕ) (s : List ℕ) where
-  one-every : (test : ℕ → Bool) (at : ℕ) → Every (λ i. has test s at ≡ true) (one test s at)
-  unfolding one
-  one-every test at = cond-cases (Every (λ i. has test s at ≡ true)) (has test s at) (λ t. t) (λ t. tt)
-
-  -- what begins a name is a name byte
-  start-name-byte : (x : ℕ) → isStart class x ≡ true → isName class x ≡ true
-  start-name-byte x h = rw (eqb-true (class x) _ h)
-
-  start-name : (at : ℕ) → has (isStart class) s at ≡ true → has (isName class) s at ≡ true
-  start-name at t =
-      has-in (isName class) s at (has-lt (isStart class) s at t) ∙ start-name-byte (byteAt s at) (has-byte (isStart class) s at t)
-
   part-every : (b : ℕ) → Every (PartStands class s b) (partAt class 64 s b)
   unfolding partAt shortAt
   part-every b =
-      every-then (λ i. has (isStart class) s b ≡ true) (PartStands class s b) _ (one (isStart class) s b) (one-every (isStart class) b) (λ i t.
+      one-cases (Every (PartStands class s b)) (isStart class) s b _ (λ t.
       cond-cases (Every (PartStands class s b)) (ltb 64 (ends (isName class) s b - b)) (λ u. tt) (λ u.
       record {
-        some = omega (arith, ends-more (isName class) s b (start-name b t), ends-from (isName class) s (b + 1));
+        some = start-in-name class s b t;
         within = ends-le (isName class) s b (omega (arith, has-lt (isStart class) s b t));
         run = refl;
         short = ltb-false 64 (ends (isName class) s b - b) u;
-      }))
+      })) tt
 
   name-every : (b : ℕ) → Every (λ name. NameStands class s b (name .local) (name .end)) (nameAt class 64 s b)
   unfolding nameAt
@@ -84,31 +75,13 @@ module _ (class : ℕ → ℕ) (s : List ℕ) where
 
 -- ---- a name that is repeated whole
 
-part-split : (s : List ℕ) (n b m e : ℕ) → m - b ≤ n → b ≤ m → m ≤ e → e ≤ length s → part s b e ≡ part s b m ++ part s m e
-part-split s zero b m e h p q l = let same : m ≡ b = omega arith in rw (same, part-none s b b (omega arith))
-part-split s (suc n) b m e h p q l =
-    elim (decLt b m) [
-      | yes k ↦
-          part-some s b e (omega arith) l
-          ∙ ap (λ (r : List ℕ). byteAt s b ∷ r) (part-split s n (b + 1) m e (omega arith) (omega arith) q l)
-          ∙ sym (ap (λ (r : List ℕ). r ++ part s m e) (part-some s b m k (omega arith)))
-      | no k ↦ let same : m ≡ b = omega arith in rw (same, part-none s b b (omega arith))
-    ]
-
 module _ (class : ℕ → ℕ) (s : List ℕ) where
   part-again : (b e at : ℕ) → b < e → e ≤ length s → e ≡ ends (isName class) s b → e - b ≤ 64 → isWhole (wordAt (part s b e) s at) ≡ true → has (isName class) s (at + (e - b)) ≡ false → endPartAt class s linkLimits (part s b e) at ≡ whole (at + (e - b))
   part-again b e at some l q small w none =
-      let size = part-size s b e l in
+      let size = length-slice b e s l in
       let r : Repeated (part s b e) s at (at + (e - b)) = subst (λ (n : ℕ). Repeated (part s b e) s at (at + n)) size (word-repeated s (part s b e) at w) in
       sym (part-by-word class (part s b e) s at r (omega arith) (part-passes s b e l class q) (omega (arith, ends-stop (isName class) s (at + (e - b)) none)))
       ∙ r .full (omega (arith, size))
-
-  word-begins : (x : ℕ) (w : List ℕ) (at : ℕ) → isWhole (wordAt (x ∷ w) s at) ≡ true → has (is x) s at ≡ true
-  word-begins x w at h = go (has (is x) s at) refl
-    where
-      go : (t : Bool) → has (is x) s at ≡ t → has (is x) s at ≡ true
-      go true e = e
-      go false e = absurd (true≢false (sym h ∙ ap isWhole (word-here x w s at e)))
 
   module _ (b local e : ℕ) (stands : NameStands class s b local e) where
     pub stands-alone : local ≡ b → (b < e) × ((e ≤ length s) × (e ≡ ends (isName class) s b))
@@ -120,7 +93,7 @@ module _ (class : ℕ → ℕ) (s : List ℕ) where
   module _ (b local e at : ℕ) (stands : NameStands class s b local e) (again : isWhole (wordAt (part s b e) s at) ≡ true) where
     pub again-within : at + (e - b) ≤ length s
     again-within =
-        let size = part-size s b e (stands .within) in
+        let size = length-slice b e s (stands .within) in
         omega (arith, size, stands .ordered, stands .last .0, word-within s (part s b e) at again (omega (arith, stands .ordered, stands .last .0)))
 
     module _ (none : has (isName class) s (at + (e - b)) ≡ false) where
@@ -136,23 +109,22 @@ module _ (class : ℕ → ℕ) (s : List ℕ) where
           let joined = stands .joined two in
           let m-within : m ≤ length s = omega (arith, stands .within, stands .last .0) in
           let split : wordAt (part s b e) s at ≡ (wordAt (part s b m) s at >>= wordAt (part s m e) s) =
-          ap (λ (w : List ℕ). wordAt w s at) (part-split s (m - b) b m e (omega arith) (omega (arith, first .0)) (omega (arith, stands .last .0)) (stands .within))
+          ap (λ (w : List ℕ). wordAt w s at) (part-split s b m e (omega (arith, first .0)) (omega (arith, stands .last .0)) (stands .within))
           ∙ word-append s (part s b m) (part s m e) at in
           let first-again : isWhole (wordAt (part s b m) s at) ≡ true = whole-first (wordAt (part s b m) s at) (wordAt (part s m e) s) (sym (ap isWhole split) ∙ again) in
           let first-is : wordAt (part s b m) s at ≡ whole i =
-          word-repeated s (part s b m) at first-again .full (omega arith) ∙ ap (λ (n : ℕ). whole (at + n)) (part-size s b m m-within) in
+          word-repeated s (part s b m) at first-again .full (omega arith) ∙ ap (λ (n : ℕ). whole (at + n)) (length-slice b m s m-within) in
           let next : m + 1 ≡ local = omega (arith, first .0) in
           let behind : part s m e ≡ 58 ∷ part s local e =
           part-some s m e (omega (arith, stands .last .0)) (stands .within)
-          ∙ ap (λ (x : ℕ). x ∷ part s (m + 1) e) (byte-known (is 58) 58 s m (joined .1))
+          ∙ ap (λ (x : ℕ). x ∷ part s (m + 1) e) (byte-is 58 s m (joined .1))
           ∙ ap (λ (k : ℕ). 58 ∷ part s k e) next in
           let rest-again : isWhole (wordAt (58 ∷ part s local e) s i) ≡ true =
           ap (λ (w : List ℕ). isWhole (wordAt w s i)) (sym behind) ∙ ap isWhole (went (wordAt (part s m e) s) first-is ∙ sym split) ∙ again in
-          let colon : has (is 58) s i ≡ true = word-begins 58 (part s local e) i rest-again in
+          let colon : has (is 58) s i ≡ true = word-begins 58 (part s local e) s i rest-again in
           let last-again : isWhole (wordAt (part s local e) s (i + 1)) ≡ true = ap isWhole (sym (word-on 58 (part s local e) s i colon)) ∙ rest-again in
-          let no-name : has (isName class) s m ≡ false =
-          subst (λ (k : ℕ). has (isName class) s k ≡ false) (sym (first .1)) (behind-run (isName class) s (length s - b) b (omega arith)) in
-          let i-none : has (isName class) s i ≡ false = has-known (isName class) 58 s i colon ∙ sym (has-known (isName class) 58 s m (joined .1)) ∙ no-name in
+          let no-name : has (isName class) s m ≡ false = subst (λ (k : ℕ). has (isName class) s k ≡ false) (sym (first .1)) (ends-fails (isName class) s b) in
+          let i-none : has (isName class) s i ≡ false = has-known 58 s i colon (isName class) ∙ sym (has-known 58 s m (joined .1) (isName class)) ∙ no-name in
           let same : i + 1 + (e - local) ≡ at + (e - b) = omega (arith, first .0, stands .last .0) in
           let last-none : has (isName class) s (i + 1 + (e - local)) ≡ false = rw same none in
           sym (went _ (part-again b m at (first .0) m-within (first .1) (joined .0) first-again i-none))
@@ -172,8 +144,8 @@ module _ (class : ℕ → ℕ) (s : List ℕ) where
     pub tag-again : has (is 62) s (at + (e - b)) ≡ true → isName class 62 ≡ false → isSpace class 62 ≡ false → whole (at + (e - b) + 1) ≡ endTagAt class s linkLimits b (record { local = local; end = e }) at
     unfolding endTagAt
     tag-again close no-name no-space =
-        let none : has (isName class) s (at + (e - b)) ≡ false = has-known (isName class) 62 s (at + (e - b)) close ∙ no-name in
-        let dark : has (isSpace class) s (at + (e - b)) ≡ false = has-known (isSpace class) 62 s (at + (e - b)) close ∙ no-space in
+        let none : has (isName class) s (at + (e - b)) ≡ false = has-known 62 s (at + (e - b)) close (isName class) ∙ no-name in
+        let dark : has (isSpace class) s (at + (e - b)) ≡ false = has-known 62 s (at + (e - b)) close (isSpace class) ∙ no-space in
         sym (one-yes (is 62) s (at + (e - b)) close)
         ∙ ap (one (is 62) s) (sym (ends-stop (isSpace class) s (at + (e - b)) dark))
         ∙ went _ (name-again none)

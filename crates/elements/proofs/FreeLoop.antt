@@ -1,6 +1,6 @@
 -- The loop over text and comments between tags. Assumes nothing.
-use Prim.Native.Nat.{ℕ, suc, _+_, _<_, _≤_}
-use mathlib.Core.Path.{_≡_, refl, subst}
+use Prim.Native.Nat.{ℕ, suc, _+_, _≤_}
+use mathlib.Core.Path.{_≡_, refl}
 use mathlib.Core.Bool.{cond}
 use mathlib.Core.List.{List}
 use native.Mathlib.Omega.{arith}
@@ -10,16 +10,11 @@ use Rattle.message.specs.Reading.Reading.{whole, refused}
 use Rattle.message.specs.Text.{textAt}
 use Rattle.message.specs.Markup.{bangAt}
 use Rattle.message.proofs.Laws.{stopped}
-use Rattle.message.proofs.Progress.{Every}
 use Rattle.message.proofs.Loops.{Fuelled}
 use Rattle.message.specs.Elements.{freeAt}
-use Rattle.message.proofs.Trees.{text-stops, free-stops, text-out}
+use Rattle.message.proofs.Trees.{text-out}
 
 module _ (class : ℕ → ℕ) (s : List ℕ) where
-  -- text that is read whole stops at a `<`
-  pub text-whole : (at stop : ℕ) → textAt class (length s) s at ≡ whole stop → (at ≤ stop) × (stop < length s)
-  text-whole at stop q = subst (Every (λ e. (at ≤ e) × (e < length s))) q (text-stops class s at (length s) at (omega arith))
-
   abbrev pub freeStep : ℕ → (ℕ → Reading ℕ) → Reading ℕ
   freeStep at next =
       textAt class (length s) s at >>= (λ stop. cond (has (is 33) s (stop + 1)) (bangAt class s stop >>= next) (cond (has (is 63) s (stop + 1)) (refused 12 stop) (whole stop)))
@@ -43,7 +38,3 @@ module _ (class : ℕ → ℕ) (s : List ℕ) where
     turn = free-turn;
     ended = free-ended;
   }
-
-  -- and so do text and comments
-  pub free-whole : (at stop : ℕ) → freeAt class s (length s) at ≡ whole stop → (at ≤ stop) × (stop < length s)
-  free-whole at stop q = subst (Every (λ e. (at ≤ e) × (e < length s))) q (free-stops class s at (length s) at (omega arith))

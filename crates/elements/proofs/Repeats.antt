@@ -7,17 +7,19 @@ use native.Mathlib.Nat.{min-eq-left}
 use native.Mathlib.Omega.{arith}
 use native.Mathlib.Decide.{decLt}
 use lib.ListN.{length, getD, drop}
+use lib.Seq.{length-slice}
 use lib.Dec.{eqb}
-use borrow.Author.Tests.{lt-ltb, le-ltb, eq-eqb, ne-eqb, eqb-true}
+use borrow.Author.Tests.{lt-ltb, le-ltb, eq-eqb, ne-eqb}
 use Rattle.message.specs.Class.{isName}
 use Rattle.message.specs.Reading.{Reading, _>>=_, isWhole, is, byteAt, has, one, ends, wordAt}
 use Rattle.message.specs.Reading.Reading.{whole, refused}
 use Rattle.message.specs.Names.{shortAt}
-use Rattle.message.proofs.Laws.{went, stopped, cond-true, cond-false, has-in, has-out, has-lt, has-byte, one-yes, one-no, ends-more, ends-stop, ends-out, word-none, word-more}
+use Rattle.message.proofs.Laws.{went, stopped, cond-true, cond-false, has-in, has-lt, has-byte, one-yes, one-no, ends-more, ends-stop, word-none, word-more}
+use Rattle.message.proofs.Runs.{has-known}
 use Rattle.message.specs.Limits.{linkLimits}
 use Rattle.message.specs.Elements.{part, endPartAt}
 use Rattle.elements.specs.Held.{sameUpTo}
-use Rattle.message.proofs.Parts.{part-length, part-byte, part-none, part-some}
+use Rattle.message.proofs.Parts.{part-byte, part-none, part-some}
 
 -- ---- what a run of bytes passes
 
@@ -44,26 +46,6 @@ module _ (test : ℕ → Bool) (s : List ℕ) where
             let t : has test s b ≡ true = run-has b (omega arith) in
             subst (Passes test) (sym (part-some s b e k l)) (has-byte test s b t, run-passes n (b + 1) e (omega arith) l (q ∙ ends-more test s b t))
       ]
-
-  -- the byte behind a run does not pass
-  behind-step : (at : ℕ) → (has test s at ≡ true → has test s (ends test s (at + 1)) ≡ false) → has test s (ends test s at) ≡ false
-  behind-step at more = go (has test s at) refl
-    where
-      go : (t : Bool) → has test s at ≡ t → has test s (ends test s at) ≡ false
-      go true e = rw (ends-more test s at e) (more e)
-      go false e = rw (ends-stop test s at e) e
-
-  pub behind-run : (n at : ℕ) → length s - at ≤ n → has test s (ends test s at) ≡ false
-  behind-run zero at h = rw (ends-out test s at (omega arith)) (has-out test s at (omega arith))
-  behind-run (suc n) at h = behind-step at (λ t. behind-run n (at + 1) (omega (arith, has-lt test s at t)))
-
--- a byte that is known passes or not
-module _ (test : ℕ → Bool) (x : ℕ) (s : List ℕ) (at : ℕ) (there : has (is x) s at ≡ true) where
-  pub byte-known : byteAt s at ≡ x
-  byte-known = eqb-true (byteAt s at) x (has-byte (is x) s at there)
-
-  pub has-known : has test s at ≡ test x
-  has-known = has-in test s at (has-lt (is x) s at there) ∙ ap test byte-known
 
 -- ---- a word, byte by byte
 
@@ -118,7 +100,7 @@ repeated-more x w s at i there r =
       some = λ h. there;
       short = λ h. word-on x w s at there ∙ r .short (omega arith);
       full = λ h. word-on x w s at there ∙ r .full (omega arith);
-      run = λ test p. ends-more test s at (has-known test x s at there ∙ p .0) ∙ r .run test (p .1);
+      run = λ test p. ends-more test s at (has-known x s at there test ∙ p .0) ∙ r .run test (p .1);
     }
 
 repeated-here : (x : ℕ) (w s : List ℕ) (at : ℕ) → has (is x) s at ≡ false → Repeated (x ∷ w) s at at
@@ -173,9 +155,6 @@ module _ (class : ℕ → ℕ) (w s : List ℕ) (at : ℕ) {i : ℕ} (found : Re
 -- ---- the bytes from b to e, a run of name bytes, which are repeated up to i
 
 module _ (s : List ℕ) (b e : ℕ) (l : e ≤ length s) where
-  pub part-size : length (part s b e) ≡ e - b
-  part-size = part-length s b e ∙ ap (λ (n : ℕ). n - b) (min-eq-left l)
-
   pub part-passes : (class : ℕ → ℕ) → e ≡ ends (isName class) s b → Passes (isName class) (part s b e)
   part-passes class q = run-passes (isName class) s (e - b) b e (omega arith) l q
 
@@ -187,7 +166,7 @@ module _ (class : ℕ → ℕ) (s : List ℕ) (b e at : ℕ) (some : b < e) (l :
   again-from = found .from
 
   pub again-none : i ≡ at → refused 9 at ≡ endPartAt class s linkLimits (part s b e) at
-  again-none h = part-other-first class (part s b e) s at found h (omega (arith, part-size s b e l))
+  again-none h = part-other-first class (part s b e) s at found h (omega (arith, length-slice b e s l))
 
   module _ (any : i ≡ at → ⊥) {stop : ℕ} (stop-is : stop ≡ ends (isName class) s i) where
     further : at < i
@@ -198,12 +177,12 @@ module _ (class : ℕ → ℕ) (s : List ℕ) (b e at : ℕ) (some : b < e) (l :
 
     pub again-short : stop - at ≤ 64 → i - at < e - b → refused 9 i ≡ endPartAt class s linkLimits (part s b e) at
     again-short h k =
-        sym (found .short (omega (arith, part-size s b e l, found .from)))
+        sym (found .short (omega (arith, length-slice b e s l, found .from)))
         ∙ part-by-word class (part s b e) s at found further (part-passes s b e l class q) (omega arith)
 
     pub again-whole : stop - at ≤ 64 → e - b ≤ i - at → whole i ≡ endPartAt class s linkLimits (part s b e) at
     again-whole h k =
-        sym (found .full (omega (arith, part-size s b e l, found .from)))
+        sym (found .full (omega (arith, length-slice b e s l, found .from)))
         ∙ part-by-word class (part s b e) s at found further (part-passes s b e l class q) (omega arith)
 
 -- ---- a word that is whole
@@ -256,7 +235,7 @@ whole-first (refused number place) next h = h
 
 module _ (s : List ℕ) (b e at : ℕ) (l : e ≤ length s) where
   pub repeats-long : 0 < e - b → length s < at + (e - b) → false ≡ isWhole (wordAt (part s b e) s at)
-  repeats-long some h = sym (word-long s (part s b e) at (omega (arith, part-size s b e l)) (omega (arith, part-size s b e l)))
+  repeats-long some h = sym (word-long s (part s b e) at (omega (arith, length-slice b e s l)) (omega (arith, length-slice b e s l)))
 
   pub repeats-behind : length s < at → eqb (e - b) 0 ≡ isWhole (wordAt (part s b e) s at)
   unfolding wordAt
@@ -269,7 +248,7 @@ module _ (s : List ℕ) (b e at : ℕ) (l : e ≤ length s) where
   module _ (k : ℕ) where
     turn : k < e - b → wordAt (drop k (part s b e)) s (at + k) ≡ (one (is (byteAt s (b + k))) s (at + k) >>= wordAt (drop (k + 1) (part s b e)) s)
     turn h =
-        word-more (part s b e) s (at + k) k (omega (arith, part-size s b e l))
+        word-more (part s b e) s (at + k) k (omega (arith, length-slice b e s l))
         ∙ ap (λ (x : ℕ). one (is x) s (at + k) >>= wordAt (drop (k + 1) (part s b e)) s) (part-byte s b e k (omega (arith, min-eq-left l)))
 
     pub repeats-on : k < e - b → at + k < length s → byteAt s (b + k) ≡ byteAt s (at + k) → isWhole (wordAt (drop (k + 1) (part s b e)) s (at + (k + 1))) ≡ isWhole (wordAt (drop k (part s b e)) s (at + k))
@@ -284,7 +263,7 @@ module _ (s : List ℕ) (b e at : ℕ) (l : e ≤ length s) where
         ap isWhole (stopped (wordAt (drop (k + 1) (part s b e)) s) (one-no (is (byteAt s (b + k))) s (at + k) other) ∙ sym (turn h))
 
     pub repeats-end : e - b ≤ k → true ≡ isWhole (wordAt (drop k (part s b e)) s (at + k))
-    repeats-end h = ap isWhole (sym (word-none (part s b e) s (at + k) k (omega (arith, part-size s b e l))))
+    repeats-end h = ap isWhole (sym (word-none (part s b e) s (at + k) k (omega (arith, length-slice b e s l))))
 
 -- ---- the code's search for the place up to which the bytes from k to e are repeated
 

@@ -1,6 +1,7 @@
 -- Tests, as values of Bool: two that follow from each other are the same, one that cannot pass fails, and none does both. Assumes nothing.
 use mathlib.Core.Path.{_≡_, refl, sym, _∙_}
-use mathlib.Core.Bool.{Bool, true, false}
+use mathlib.Core.Logic.{_⊎_, inl, inr}
+use mathlib.Core.Bool.{Bool, true, false, _||_}
 use Prim.Native.Nat.{ℕ}
 use native.Mathlib.Omega.{arith}
 
@@ -18,3 +19,13 @@ true-false p q = let z : _≡_ {A = ℕ} 0 1 = clash (sym p ∙ q) in omega arit
   where
     clash : true ≡ false → _≡_ {A = ℕ} 0 1
     clash e = cc
+
+-- ---- of two
+
+pub either : (a b : Bool) → (a || b) ≡ true → (a ≡ true) ⊎ (b ≡ true)
+either true b e = inl refl
+either false b e = inr e
+
+pub neither : (a b : Bool) → (a || b) ≡ false → (a ≡ false) × (b ≡ false)
+neither true b e = absurd (true-false refl e)
+neither false b e = (refl, e)

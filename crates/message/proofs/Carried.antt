@@ -1,29 +1,26 @@
 -- The attributes of a start tag that was read: what is found under a name is what the tag carries (specs/Seven), and the reverse. Assumes nothing.
 use Prim.Native.Nat.{ℕ, zero, suc, _+_, _-_}
 use mathlib.Core.Path.{_≡_, refl, sym, _∙_, ap, subst}
-use mathlib.Core.Logic.{_⊎_, ⊎-elim}
-use mathlib.Core.Logic._⊎_.{inl, inr}
-use mathlib.Core.Bool.{Bool, true, false, cond, _||_}
+use mathlib.Core.Logic.{_⊎_, inl, inr, ⊎-elim}
+use mathlib.Core.Bool.{Bool, true, false, cond}
 use mathlib.Core.List.{List, _∷_}
-use native.Mathlib.Omega.{arith}
-use lib.ListN.{length}
 use lib.Dec.{ltb, eqb}
 use borrow.Author.Tests.{eqb-true}
 use Rattle.laws.specs.Bytes.{sameBytes}
-use Rattle.laws.proofs.Tests.{true-false, never}
+use Rattle.laws.proofs.Tests.{true-false, never, either}
 use Rattle.laws.proofs.Tails.{same-refl, same-eq}
 use Rattle.message.specs.Class.{classOf, isStart, isName, isSpace}
 use Rattle.message.specs.Reading.{Reading, _>>=_, is, has, one, ends, byteAt, blanks}
 use Rattle.message.specs.Reading.Reading.{whole, refused}
 use Rattle.message.specs.Names.{Named, shortAt, partAt, nameAt}
 use Rattle.message.specs.Limits.{Limits}
-use Rattle.message.specs.Elements.{part, Quoted, isKnown, endsTag, quotedAt, freshAt, attributesAt}
+use Rattle.message.specs.Elements.{part, Quoted, endsTag, quotedAt, freshAt, attributesAt}
 use Rattle.message.specs.Messages.{attributeCalled}
 use Rattle.message.specs.Readable.{AttributeStands}
 use Rattle.message.specs.Seven.{Carries}
 use Rattle.message.specs.Seven.Carries.{this, later}
 use Rattle.message.proofs.Laws.{cond-true, cond-false, has-byte, one-has}
-use Rattle.message.proofs.Trees.{whole-same}
+use Rattle.message.proofs.Trees.{whole-same, unread, fresh-whole}
 use Rattle.message.proofs.Facts.{then-whole}
 
 -- ---- a name is the same under any limit that it is read with
@@ -34,7 +31,7 @@ module _ (class : ℕ → ℕ) (s : List ℕ) (at : ℕ) where
   short-ends most e q = go (ltb most (ends (isName class) s at - at)) q
     where
       go : (t : Bool) → cond t (refused 14 at) (whole (ends (isName class) s at)) ≡ whole e → e ≡ ends (isName class) s at
-      go true h = let z : _≡_ {A = ℕ} 0 1 = cc in absurd (omega arith)
+      go true h = unread h
       go false h = sym (whole-same h)
 
   pub part-ends : (most e : ℕ) → partAt class most s at ≡ whole e → (has (isStart class) s at ≡ true) × (e ≡ ends (isName class) s at)
@@ -78,10 +75,6 @@ module _ (class : ℕ → ℕ) (s : List ℕ) (at : ℕ) where
 
 -- ---- the attributes one by one
 
-pub either : (a b : Bool) → (a || b) ≡ true → (a ≡ true) ⊎ (b ≡ true)
-either true b e = inl refl
-either false b e = inr e
-
 -- no name begins at the end of a tag
 no-name : (s : List ℕ) (at : ℕ) → has endsTag s at ≡ true → has (isStart classOf) s at ≡ true → ⊥
 unfolding classOf
@@ -105,20 +98,6 @@ module _ (s : List ℕ) (l : Limits) where
     pub valued : quotedAt classOf s (name .end) ≡ whole value
     pub further : attributesAt classOf s l fuel (part s (place at) (name .end) ∷ seen) (value .to + 1) ≡ whole stop
 
-  fresh-name : (seen : List (List ℕ)) (at p e : ℕ) → freshAt classOf s l seen at p ≡ whole e
-      → (has (isSpace classOf) s at ≡ true) × ((name : Named) × (nameAt classOf (l .part) s p ≡ whole name) × (e ≡ name .end))
-  unfolding freshAt
-  fresh-name seen at p e q =
-      let x = then-whole _ (one (isSpace classOf) s at) e q in
-      let y = then-whole _ (one (isStart classOf) s p) e (x .2) in
-      let z = then-whole _ (cond (ltb (length seen) (l .attributes)) (whole p) (refused 11 p)) e (y .2) in
-      let n = then-whole _ (nameAt classOf (l .part) s p) e (z .2) in
-      (one-has (isSpace classOf) s at (x .0) (x .1) .0, (n .0, n .1, go (n .0 .end) (isKnown (part s p (n .0 .end)) seen) (n .2)))
-    where
-      go : (i : ℕ) (t : Bool) → cond t (refused 9 i) (whole i) ≡ whole e → e ≡ i
-      go i true h = let z : _≡_ {A = ℕ} 0 1 = cc in absurd (omega arith)
-      go i false h = sym (whole-same h)
-
   turn : (fuel : ℕ) (seen : List (List ℕ)) (at stop : ℕ) → attributesAt classOf s l (suc fuel) seen at ≡ whole stop → (has endsTag s (place at) ≡ true) ⊎ Turn fuel seen at stop
   unfolding attributesAt
   turn fuel seen at stop q = go (has endsTag s (place at)) refl q
@@ -134,11 +113,10 @@ module _ (s : List ℕ) (l : Limits) where
       go true e h = inl e
       go false e h =
           let x = then-whole another (freshAt classOf s l seen at (place at)) stop h in
-          let n = fresh-name seen at (place at) (x .0) (x .1) in
-          let name = n .1 .0 in
-          let more : another (name .end) ≡ whole stop = ap another (sym (n .1 .2)) ∙ x .2 in
-          let v = then-whole (onward (name .end)) (quotedAt classOf s (name .end)) stop more in
-          inr (record { space = n .0; name = name; named = n .1 .1; value = v .0; valued = v .1; further = v .2 })
+          let f = fresh-whole classOf s l seen at (place at) (x .0) (x .1) in
+          let more : another (f .name .end) ≡ whole stop = ap another (sym (f .ends)) ∙ x .2 in
+          let v = then-whole (onward (f .name .end)) (quotedAt classOf s (f .name .end)) stop more in
+          inr (record { space = f .space; name = f .name; named = f .named; value = v .0; valued = v .1; further = v .2 })
 
   -- what is found stands there
   module _ (w : List ℕ) where
@@ -161,7 +139,7 @@ module _ (s : List ℕ) (l : Limits) where
     pub called-carries : (fuel : ℕ) (seen : List (List ℕ)) (at stop : ℕ) (v : Quoted) → attributesAt classOf s l fuel seen at ≡ whole stop
         → attributeCalled classOf l s fuel w at ≡ whole v → Carries s w at v
     unfolding attributesAt
-    called-carries zero seen at stop v q h = let z : _≡_ {A = ℕ} 0 1 = cc in absurd (omega arith)
+    called-carries zero seen at stop v q h = unread q
     called-carries (suc fuel) seen at stop v q h =
         ⊎-elim past
         (λ t. go t (called-carries fuel (part s (place at) (t .name .end) ∷ seen) (t .value .to + 1) stop v (t .further))
@@ -186,7 +164,7 @@ module _ (s : List ℕ) (l : Limits) where
     pub carries-called : (fuel : ℕ) (seen : List (List ℕ)) (at stop : ℕ) (v : Quoted) → attributesAt classOf s l fuel seen at ≡ whole stop
         → Carries s w at v → attributeCalled classOf l s fuel w at ≡ whole v
     unfolding attributesAt
-    carries-called zero seen at stop v q c = let z : _≡_ {A = ℕ} 0 1 = cc in absurd (omega arith)
+    carries-called zero seen at stop v q c = unread q
     carries-called (suc fuel) seen at stop _ q (this a same) = ⊎-elim (λ e. absurd (ended a e)) go (turn fuel seen at stop q)
       where
         go : Turn fuel seen at stop → attributeCalled classOf l s (suc fuel) w at ≡ whole (a .value)

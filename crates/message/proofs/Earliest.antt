@@ -29,7 +29,7 @@ use Rattle.message.proofs.Going.{Cause, dies, cut, deep, crowded, opens
 use Rattle.message.proofs.GoingElements.{going-document}
 use Rattle.message.proofs.Accepted.{whole-fits, at-continues}
 use Rattle.message.proofs.Alive.{alive-before}
-use Rattle.message.proofs.ByKind.{of-document, of-kind, Refusal, document-refused, document-whole, message-refusal}
+use Rattle.message.proofs.ByKind.{of-document, of-kind, Refusal, document-refused, message-refusal}
 use Rattle.message.proofs.Spelling.{spelled-first, opening-no-start}
 use Rattle.message.proofs.Causes.{long-name, cause-due, cause-goes}
 use Rattle.message.proofs.TagInverse.{tag-inverse}

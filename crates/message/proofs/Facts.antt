@@ -16,31 +16,55 @@ use Rattle.message.proofs.Laws.{one-has}
 use Rattle.message.specs.Limits.{Limits}
 use Rattle.message.specs.Elements.{Elements, Element, Start, Content, startEndAt, attributesAt, withNameAt, startAt, freeAt, endTagAt, contentAt, restAt, tooDeepAt, elementAt, endAt, declaredOf, rootAt, documentAt}
 use Rattle.message.specs.Elements.Elements.{none, more}
-use Rattle.message.proofs.Trees.{whole-same}
+use Rattle.message.proofs.Trees.{whole-same, unread}
 
 -- two readings that came out whole together each did
 pub then-whole : {A B : Type 0} (next : A → Reading B) (a : Reading A) (y : B) → (a >>= next) ≡ whole y → (x : A) × (a ≡ whole x) × (next x ≡ whole y)
 then-whole next (whole x) y q = (x, refl, q)
-then-whole next (refused n p) y q = let z : _≡_ {A = ℕ} 0 1 = cc in absurd (omega arith)
+then-whole next (refused n p) y q = unread q
+
+-- two readings that go on alike after what was read
+pub then-same : {A B : Type 0} (next next′ : A → Reading B) (a : Reading A) → ((x : A) → a ≡ whole x → next x ≡ next′ x) → (a >>= next) ≡ (a >>= next′)
+then-same next next′ (whole x) g = g x refl
+then-same next next′ (refused n p) g = refl
+
+-- a refusal goes through what is made of a reading
+pub refused-then : {A B : Type 0} (a : Reading A) (f : A → B) {n p : ℕ} → (a >>= (λ x. whole (f x))) ≡ refused n p → a ≡ refused n p
+refused-then (whole x) f q = unread (sym q)
+refused-then (refused n′ p′) f {n} {p} q = let y : n′ ≡ n = cc in let z : p′ ≡ p = cc in rw (y, z)
+
+-- ---- start tags
+
+-- one ends with `/>` or with `>`
+module _ (s : List ℕ) (b : ℕ) (n : Named) (at : ℕ) (P : Start → Type 0) where
+  abbrev ended : ℕ → Bool → Start
+  ended i t = record { begin = b; name = n; from = i; empty = t }
+
+  pub end-cases : (has (is 47) s at ≡ true → has (is 62) s (at + 1) ≡ true → P (ended (at + 1 + 1) true)) → (has (is 62) s at ≡ true → P (ended (at + 1) false))
+      → (st : Start) → startEndAt s b n at ≡ whole st → P st
+  unfolding startEndAt
+  end-cases emptied opened st q = go (has (is 47) s at) refl q
+    where
+      closed : (i : ℕ) (t : Bool) → (has (is 62) s i ≡ true → P (ended (i + 1) t)) → (one (is 62) s i >>= (λ e. whole (ended e t))) ≡ whole st → P st
+      closed i t f h =
+          let x = then-whole (λ e. whole (ended e t)) (one (is 62) s i) st h in
+          let o = one-has (is 62) s i (x .0) (x .1) in
+          subst P (whole-same (ap (λ (e : ℕ). whole (ended e t)) (sym (o .1)) ∙ x .2)) (f (o .0))
+
+      go : (t : Bool) → has (is 47) s at ≡ t → cond t (one (is 62) s (at + 1) >>= (λ i. whole (ended i true))) (one (is 62) s at >>= (λ i. whole (ended i false))) ≡ whole st → P st
+      go true e h = closed (at + 1) true (emptied e) h
+      go false e h = closed at false opened h
 
 module _ (class : ℕ → ℕ) (s : List ℕ) (l : Limits) where
+  -- attributes were read behind the name
+  abbrev pub Attributed : Named → Type 0
+  Attributed n = (stop : ℕ) × (attributesAt class s l (length s) [] (n .end) ≡ whole stop)
+
   pub record Starts (at : ℕ) (st : Start) : Type 0 where
     pub begins : st .begin ≡ at + 1
     pub named : nameAt class (l .part) s (st .begin) ≡ whole (st .name)
-
-  end-begins : (b : ℕ) (n : Named) (at : ℕ) (st : Start) → startEndAt s b n at ≡ whole st → (st .begin ≡ b) × (st .name ≡ n)
-  unfolding startEndAt
-  end-begins b n at st q = go (has (is 47) s at) q
-    where
-      made : ℕ → Bool → Start
-      made i t = record { begin = b; name = n; from = i; empty = t }
-
-      same : (i : ℕ) (t : Bool) → whole (made i t) ≡ whole st → (st .begin ≡ b) × (st .name ≡ n)
-      same i t e = (ap (λ (x : Start). x .begin) (sym (whole-same e)), ap (λ (x : Start). x .name) (sym (whole-same e)))
-
-      go : (t : Bool) → cond t (one (is 62) s (at + 1) >>= (λ i. whole (made i true))) (one (is 62) s at >>= (λ i. whole (made i false))) ≡ whole st → (st .begin ≡ b) × (st .name ≡ n)
-      go true e = let x = then-whole (λ i. whole (made i true)) (one (is 62) s (at + 1)) st e in same (x .0) true (x .2)
-      go false e = let x = then-whole (λ i. whole (made i false)) (one (is 62) s at) st e in same (x .0) false (x .2)
+    pub attributed : Attributed (st .name)
+    pub ends : startEndAt s (st .begin) (st .name) (attributed .0) ≡ whole st
 
   pub start-starts : (at : ℕ) (st : Start) → startAt class s l at ≡ whole st → Starts at st
   unfolding startAt withNameAt
@@ -48,8 +72,68 @@ module _ (class : ℕ → ℕ) (s : List ℕ) (l : Limits) where
       let x = then-whole _ (one (is 60) s at) st q in
       let y = then-whole _ (nameAt class (l .part) s (x .0)) st (x .2) in
       let z = then-whole (startEndAt s (x .0) (y .0)) (attributesAt class s l (length s) [] (y .0 .end)) st (y .2) in
-      let w = end-begins (x .0) (y .0) (z .0) st (z .2) in
-      record { begins = w .0 ∙ one-has (is 60) s at (x .0) (x .1) .1; named = ap (nameAt class (l .part) s) (w .0) ∙ (y .1 ∙ ap whole (sym (w .1))) }
+      let w = end-cases s (x .0) (y .0) (z .0) (λ st. (st .begin ≡ x .0) × (st .name ≡ y .0)) (λ t u. (refl, refl)) (λ t. (refl, refl)) st (z .2) in
+      record {
+        begins = w .0 ∙ one-has (is 60) s at (x .0) (x .1) .1;
+        named = ap (nameAt class (l .part) s) (w .0) ∙ (y .1 ∙ ap whole (sym (w .1)));
+        attributed = (z .0, ap (λ (n : Named). attributesAt class s l (length s) [] (n .end)) (w .1) ∙ z .1);
+        ends = ap (λ (b : ℕ). startEndAt s b (st .name) (z .0)) (w .0) ∙ (ap (λ (n : Named). startEndAt s (x .0) n (z .0)) (w .1) ∙ z .2);
+      }
+
+  -- ---- an element behind its start tag
+
+  module _ (child : ℕ → Reading Element) (st : Start) where
+    abbrev closed : ℕ → ℕ → Content
+    closed stop e = record { inside = none; to = stop; end = e }
+
+    abbrev nested : Element → Content → Content
+    nested e c = record { inside = more (e .tag) (e .inside) (c .inside); to = c .to; end = c .end }
+
+    -- content that was read has what its end has, and each element before it keeps
+    pub content-every : (P : ℕ → Content → Type 0)
+        → ((at stop e : ℕ) → freeAt class s (length s) at ≡ whole stop → has (is 47) s (stop + 1) ≡ true
+        → endTagAt class s l (st .begin) (st .name) (stop + 2) ≡ whole e → P at (closed stop e))
+        → ((at stop : ℕ) (e : Element) (c : Content) → freeAt class s (length s) at ≡ whole stop → child stop ≡ whole e → P (e .tag .end) c → P at (nested e c))
+        → (fuel at : ℕ) (c : Content) → contentAt class s l fuel child st at ≡ whole c → P at c
+    unfolding contentAt
+    content-every P end keeps zero at c q = unread q
+    content-every P end keeps (suc fuel) at c q =
+        let x = then-whole _ (freeAt class s (length s) at) c q in
+        go (content-every P end keeps fuel) (x .0) (x .1) (has (is 47) s (x .0 + 1)) refl (x .2)
+      where
+        go : ((from : ℕ) (rest : Content) → contentAt class s l fuel child st from ≡ whole rest → P from rest)
+            → (stop : ℕ) → freeAt class s (length s) at ≡ whole stop → (t : Bool) → has (is 47) s (stop + 1) ≡ t
+            → cond t (endTagAt class s l (st .begin) (st .name) (stop + 2) >>= (λ e. whole (closed stop e)))
+            (child stop >>= (λ e. contentAt class s l fuel child st (e .tag .end) >>= (λ rest. whole (nested e rest)))) ≡ whole c
+            → P at c
+        go further stop f true t h =
+            let x = then-whole (λ e. whole (closed stop e)) (endTagAt class s l (st .begin) (st .name) (stop + 2)) c h in
+            subst (P at) (whole-same (x .2)) (end at stop (x .0) f t (x .1))
+        go further stop f false t h =
+            let x = then-whole (λ e. contentAt class s l fuel child st (e .tag .end) >>= (λ rest. whole (nested e rest))) (child stop) c h in
+            let y = then-whole (λ rest. whole (nested (x .0) rest)) (contentAt class s l fuel child st (x .0 .tag .end)) c (x .2) in
+            subst (P at) (whole-same (y .2)) (keeps at stop (x .0) (y .0) f (x .1) (further (x .0 .tag .end) (y .0) (y .1)))
+
+    abbrev emptied : Element
+    emptied = record { tag = record { begin = st .begin; name = st .name; from = 0; to = 0; end = st .from }; inside = none }
+
+    abbrev filled : Content → Element
+    filled c = record { tag = record { begin = st .begin; name = st .name; from = st .from; to = c .to; end = c .end }; inside = c .inside }
+
+    -- it has content, or none at all
+    pub rest-cases : (P : Element → Type 0) → (st .empty ≡ true → P emptied)
+        → ((c : Content) → contentAt class s l (length s) child st (st .from) ≡ whole c → P (filled c))
+        → (e : Element) → restAt class s l child st ≡ whole e → P e
+    unfolding restAt
+    rest-cases P f g e q = go (st .empty) refl q
+      where
+        go : (t : Bool) → st .empty ≡ t → cond t (whole emptied) (contentAt class s l (length s) child st (st .from) >>= (λ c. whole (filled c))) ≡ whole e → P e
+        go true t h = subst P (whole-same h) (f t)
+        go false t h =
+            let x = then-whole (λ c. whole (filled c)) (contentAt class s l (length s) child st (st .from)) e h in
+            subst P (whole-same (x .2)) (g (x .0) (x .1))
+
+  -- ---- an element
 
   -- each of the elements is what `child` reads again at its place
   abbrev pub Reads : (ℕ → Reading Element) → Elements → Type 0
@@ -60,54 +144,25 @@ module _ (class : ℕ → ℕ) (s : List ℕ) (l : Limits) where
   abbrev pub BeginsAt : (ℕ → Reading Element) → Type 0
   BeginsAt child = (at : ℕ) (e : Element) → child at ≡ whole e → e .tag .begin ≡ at + 1
 
-  content-reads : (child : ℕ → Reading Element) → BeginsAt child → (st : Start) (fuel at : ℕ) (c : Content) → contentAt class s l fuel child st at ≡ whole c → Reads child (c .inside)
-  unfolding contentAt
-  content-reads child begins st zero at c q = let z : _≡_ {A = ℕ} 0 1 = cc in absurd (omega arith)
-  content-reads child begins st (suc fuel) at c q =
-      let x = then-whole _ (freeAt class s (length s) at) c q in
-      turn (content-reads child begins st fuel) (x .0) (has (is 47) s (x .0 + 1)) (x .2)
-    where
-      nested : Element → Content → Content
-      nested e rest = record { inside = more (e .tag) (e .inside) (rest .inside); to = rest .to; end = rest .end }
-
-      closed : ℕ → ℕ → Content
-      closed stop e = record { inside = none; to = stop; end = e }
-
-      turn : ((from : ℕ) (rest : Content) → contentAt class s l fuel child st from ≡ whole rest → Reads child (rest .inside)) → (stop : ℕ) (t : Bool)
-          → cond t (endTagAt class s l (st .begin) (st .name) (stop + 2) >>= (λ e. whole (closed stop e))) (child stop >>= (λ e. contentAt class s l fuel child st (e .tag .end) >>= (λ rest. whole (nested e rest)))) ≡ whole c
-          → Reads child (c .inside)
-      turn further stop true h =
-          let x = then-whole (λ e. whole (closed stop e)) (endTagAt class s l (st .begin) (st .name) (stop + 2)) c h in
-          subst (λ (d : Content). Reads child (d .inside)) (whole-same (x .2)) tt
-      turn further stop false h =
-          let x = then-whole (λ e. contentAt class s l fuel child st (e .tag .end) >>= (λ rest. whole (nested e rest))) (child stop) c h in
-          let y = then-whole (λ rest. whole (nested (x .0) rest)) (contentAt class s l fuel child st (x .0 .tag .end)) c (x .2) in
-          let back : x .0 .tag .begin - 1 ≡ stop = omega (arith, begins stop (x .0) (x .1)) in
-          subst (λ (d : Content). Reads child (d .inside)) (whole-same (y .2)) (ap child back ∙ x .1, further (x .0 .tag .end) (y .0) (y .1))
-
-  -- ---- an element
-
   -- it stands at the place with the name that is read there, and so do the elements inside, one level down
   pub record Stands (child : ℕ → Reading Element) (at : ℕ) (e : Element) : Type 0 where
     pub begins : e .tag .begin ≡ at + 1
     pub named : nameAt class (l .part) s (e .tag .begin) ≡ whole (e .tag .name)
+    pub attributed : Attributed (e .tag .name)
     pub inner : Reads child (e .inside)
 
   rest-stands : (child : ℕ → Reading Element) → BeginsAt child → (at : ℕ) (st : Start) → Starts at st → (e : Element) → restAt class s l child st ≡ whole e → Stands child at e
-  unfolding restAt
-  rest-stands child begins at st so e q = go (st .empty) q
+  rest-stands child begins at st so =
+      rest-cases child st (Stands child at)
+      (λ t. record { begins = so .begins; named = so .named; attributed = so .attributed; inner = tt })
+      (λ c q. record { begins = so .begins; named = so .named; attributed = so .attributed; inner = all c q })
     where
-      emptied : Element
-      emptied = record { tag = record { begin = st .begin; name = st .name; from = 0; to = 0; end = st .from }; inside = none }
+      again : (from stop : ℕ) (e : Element) (c : Content) → freeAt class s (length s) from ≡ whole stop → child stop ≡ whole e → Reads child (c .inside)
+          → (child (e .tag .begin - 1) ≡ whole e) × Reads child (c .inside)
+      again from stop e c f h others = (ap child (omega (arith, begins stop e h)) ∙ h, others)
 
-      filled : Content → Element
-      filled c = record { tag = record { begin = st .begin; name = st .name; from = st .from; to = c .to; end = c .end }; inside = c .inside }
-
-      go : (t : Bool) → cond t (whole emptied) (contentAt class s l (length s) child st (st .from) >>= (λ c. whole (filled c))) ≡ whole e → Stands child at e
-      go true h = subst (Stands child at) (whole-same h) (record { begins = so .begins; named = so .named; inner = tt })
-      go false h =
-          let x = then-whole (λ c. whole (filled c)) (contentAt class s l (length s) child st (st .from)) e h in
-          subst (Stands child at) (whole-same (x .2)) (record { begins = so .begins; named = so .named; inner = content-reads child begins st (length s) (st .from) (x .0) (x .1) })
+      all : (c : Content) → contentAt class s l (length s) child st (st .from) ≡ whole c → Reads child (c .inside)
+      all = content-every child st (λ from c. Reads child (c .inside)) (λ from stop e f t h. tt) again (length s) (st .from)
 
   -- below the last level nothing is read
   pub none-deep : (at : ℕ) (e : Element) → elementAt class s l 0 at ≡ whole e → ⊥
@@ -115,10 +170,7 @@ module _ (class : ℕ → ℕ) (s : List ℕ) (l : Limits) where
   none-deep at e q =
       let x = then-whole _ (one (is 60) s at) e q in
       let y = then-whole _ (one (isStart class) s (x .0)) e (x .2) in
-      clash (y .2)
-    where
-      clash : refused 10 at ≡ whole e → ⊥
-      clash h = let z : _≡_ {A = ℕ} 0 1 = cc in omega arith
+      unread (y .2)
 
   element-begins : (depth : ℕ) → BeginsAt (elementAt class s l depth)
   unfolding elementAt
@@ -149,7 +201,7 @@ module _ (class : ℕ → ℕ) (s : List ℕ) (l : Limits) where
           (x .0, y .1 ∙ w .2)
 
       go : (t : Bool) → cond t (refused 8 0) (cond (eqb at 0) (declaredOf class s) (whole at) >>= rootAt class s l) ≡ whole e → (begin : ℕ) × (elementAt class s l (l .levels) begin ≡ whole e)
-      go true h = let z : _≡_ {A = ℕ} 0 1 = cc in absurd (omega arith)
+      go true h = unread h
       go false h = let x = then-whole (rootAt class s l) (cond (eqb at 0) (declaredOf class s) (whole at)) e h in root (x .0) (x .2)
 
   -- and is what is read again there

@@ -17,9 +17,9 @@ use Rattle.message.specs.Elements.{part, Element, Start, Content, freeAt
 use Rattle.message.specs.Elements.Elements.{none}
 use Rattle.message.specs.Readable.{of-end}
 use Rattle.message.proofs.Laws.{cond-cases, has-lt, has-byte, and-true}
-use Rattle.message.proofs.Progress.{Every, past-whole}
+use Rattle.message.proofs.Progress.{past-whole}
 use Rattle.message.proofs.MarkupLoop.{past-bang}
-use Rattle.message.proofs.Trees.{text-stops, free-stops, element-on}
+use Rattle.message.proofs.Trees.{text-whole, free-whole, element-on}
 use Rattle.message.proofs.Facts.{Starts, start-starts}
 use Rattle.message.proofs.Automaton.{Ground, first, before, behind, inside, State, ground, opened, Next, dead, goes, step, after, closing, betweenTags}
 use Rattle.message.proofs.Dues.{isBehind, isFirst, depth, due, At, stateAt}
@@ -35,9 +35,6 @@ use Rattle.message.proofs.Ways.{at-within}
 slash-no-start : isStart classOf 47 ≡ false
 unfolding classOf
 slash-no-start = refl
-
-every-whole : {A : Type 0} (P : A → Type 0) {a : Reading A} {x : A} → a ≡ whole x → Every P a → P x
-every-whole P q h = subst (Every P) q h
 
 module _ (l : Limits) (s : List ℕ) where
   -- ---- text and comments up to the next tag
@@ -55,7 +52,7 @@ module _ (l : Limits) (s : List ℕ) where
   going-free v o zero b i enough safe here = stuck-here l s here refl (λ within. absurd (omega arith))
   going-free v o (suc fuel) b i enough safe here =
       outcome-then l s _ (AtTag v o) _ (textAt classOf (length s) s i) (going-text l s v o (length s) b i (omega arith) safe here) (λ stop q at-stop.
-      let on : i ≤ stop = text-from stop q in
+      let on : i ≤ stop = text-whole classOf s i stop q .0 in
       cond-cases (Outcome l s (AtTag v o)) (has (is 33) s (stop + 1))
       (λ h.
       outcome-then l s _ (AtTag v o) _ (bangAt classOf s stop) (going-bang l s (inside (at-stop .0) v o) stop (at-stop .1) (at-stop .2) h) (λ e r at-e.
@@ -65,9 +62,6 @@ module _ (l : Limits) (s : List ℕ) where
       cond-cases (Outcome l s (AtTag v o)) (has (is 63) s (stop + 1))
       (λ h. (ground (inside (at-stop .0) v o), at-stop .1, opens (inside (at-stop .0) v o) refl (at-stop .2) (rw (no-bang, h))))
       (λ no-question. record { bracketed = at-stop .0; here = at-stop .1; tagged = at-stop .2; no-bang = no-bang; no-question = no-question })))
-    where
-      text-from : (stop : ℕ) → textAt classOf (length s) s i ≡ whole stop → i ≤ stop
-      text-from stop q = every-whole (λ x. (i ≤ x) × (x < length s)) q (text-stops classOf s i (length s) i (omega arith)) .0
 
   -- ---- content, where the elements one level down are read rightly
 
@@ -109,10 +103,7 @@ module _ (l : Limits) (s : List ℕ) where
         (λ h.
         outcome-then l s _ _ _ (elementAt classOf s l d stop) (child (inside (at-tag .bracketed) v o) stop deep-enough (child-place stop at-tag h)) (λ e r at-e.
         outcome-then l s _ _ _ (contentAt classOf s l fuel (elementAt classOf s l d) start (e .tag .end))
-        (going-content fuel 0 (e .tag .end) (omega (arith, free-from stop q, element-on classOf s l d stop e r .0)) tt at-e) (λ c t at-c. at-c))))
-      where
-        free-from : (stop : ℕ) → freeAt classOf s (length s) i ≡ whole stop → i ≤ stop
-        free-from stop q = every-whole (λ x. (i ≤ x) × (x < length s)) q (free-stops classOf s i (length s) i (omega arith)) .0
+        (going-content fuel 0 (e .tag .end) (omega (arith, free-whole classOf s i stop q .0, element-on classOf s l d stop e r .0)) tt at-e) (λ c t at-c. at-c))))
 
   -- ---- elements
 

@@ -18,6 +18,7 @@ use Rattle.message.specs.Elements.{part, Element, Start, endsTag, quoted
 use Rattle.message.specs.Raised.{AtMost, Raised}
 use Rattle.message.specs.Raised.Raised.{bytes as more-bytes, levels as more-levels, attributes as more-attributes, part as longer-part}
 use Rattle.message.proofs.Laws.{stopped, one-yes, one-no}
+use Rattle.message.proofs.Trees.{unread}
 
 module _ (l l′ : Limits) where
   -- a reading with the limits of l, and one with those of l′
@@ -38,7 +39,7 @@ module _ (l l′ : Limits) where
   -- what was read whole is read with raised limits too
   pub kept-whole : {A : Type 0} (r r′ : Reading A) (x : A) → Kept r r′ → r ≡ whole x → r′ ≡ whole x
   kept-whole r r′ x (inl e) q = sym e ∙ q
-  kept-whole r r′ x (inr w) q = let z : whole x ≡ refused (w .0) (w .1) = sym q ∙ w .3 in let y : _≡_ {A = ℕ} 0 1 = cc in absurd (omega arith)
+  kept-whole r r′ x (inr w) q = unread (sym (w .3) ∙ q)
 
   kept-cond : {A : Type 0} {x x′ y y′ : Reading A} (t : Bool) → Kept x x′ → Kept y y′ → Kept (cond t x y) (cond t x′ y′)
   kept-cond true p q = p
@@ -66,7 +67,7 @@ module _ (l l′ : Limits) where
     unfolding partAt
     kept-part at = kept-on _ _ (one (isStart class) s at) (λ next. kept-short at)
 
-    pub kept-name : (at : ℕ) → Kept (nameAt class (l .part) s at) (nameAt class (l′ .part) s at)
+    kept-name : (at : ℕ) → Kept (nameAt class (l .part) s at) (nameAt class (l′ .part) s at)
     unfolding nameAt
     kept-name at =
         kept-then _ _ (kept-part at) (λ first q.
@@ -95,7 +96,7 @@ module _ (l l′ : Limits) where
         room : Kept (roomIn (ltb (length seen) (l .attributes))) (roomIn (ltb (length seen) (l′ .attributes)))
         room = go (ltb (length seen) (l .attributes)) refl (ltb (length seen) (l′ .attributes)) refl
 
-    kept-attributes : (fuel : ℕ) (seen : List (List ℕ)) (at : ℕ) → Kept (attributesAt class s l fuel seen at) (attributesAt class s l′ fuel seen at)
+    pub kept-attributes : (fuel : ℕ) (seen : List (List ℕ)) (at : ℕ) → Kept (attributesAt class s l fuel seen at) (attributesAt class s l′ fuel seen at)
     unfolding attributesAt
     kept-attributes zero seen at = inl refl
     kept-attributes (suc fuel) seen at =

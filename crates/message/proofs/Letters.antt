@@ -7,7 +7,7 @@ use mathlib.Core.List.{List, [], _∷_}
 use native.Mathlib.Omega.{arith}
 use lib.ListN.{length}
 use lib.Dec.{ltb}
-use borrow.Author.Tests.{lt-ltb, le-ltb, ltb-true, ltb-false, eqb-true, ne-eqb}
+use borrow.Author.Tests.{lt-ltb, le-ltb, ltb-true, ltb-false}
 use Rattle.message.specs.Class.{classOf, isText}
 use Rattle.message.specs.Reading.{Reading, _>>=_, is, byteAt, has}
 use Rattle.message.specs.Reading.Reading.{whole}
@@ -18,36 +18,43 @@ use Rattle.message.specs.Values.{isBreak, lineEnd, letterAt, attributeLe
 use Rattle.message.specs.Meanings.{ValueSays, ContentSays}
 use Rattle.message.specs.Meanings.ValueSays.{done, space, byte, special}
 use Rattle.message.specs.Meanings.ContentSays.{done as all-done, comment, line, byte as text-byte, special as text-special}
-use Rattle.message.proofs.Laws.{cond-cases, both-second, has-in, has-lt, has-byte}
+use Rattle.message.proofs.Laws.{cond-cases, both-second, has-lt}
+use Rattle.message.proofs.Runs.{has-known}
 use Rattle.message.proofs.Progress.{PastCharacter, past-whole, past-special}
 use Rattle.message.proofs.MarkupLoop.{bang-on}
-use Rattle.message.proofs.Trees.{whole-same}
+use Rattle.message.proofs.Trees.{whole-same, unread}
 use Rattle.message.proofs.Facts.{then-whole}
 
-module _ (s : List ℕ) where
-  -- ---- each letter goes on by a byte at least
+-- ---- a letter that is read ends past its place
 
-  past-line-end : (test : ℕ → Bool) (at : ℕ) → has test s at ≡ true → (at < lineEnd s at) × (lineEnd s at ≤ length s)
-  past-line-end test at h =
+module _ (class : ℕ → ℕ) (s : List ℕ) (at : ℕ) where
+  line-past : at < length s → (at < lineEnd s at) × (lineEnd s at ≤ length s)
+  line-past h =
       cond-cases (λ e. (at < e) × (e ≤ length s)) (has (is 13) s at && has (is 10) s (at + 1))
-      (λ t. omega (arith, has-lt (is 10) s (at + 1) (both-second (has (is 13) s at) (has (is 10) s (at + 1)) t)))
-      (λ t. omega (arith, has-lt test s at h))
+      (λ t. omega (arith, has-lt (is 10) s (at + 1) (both-second (has (is 13) s at) (has (is 10) s (at + 1)) t))) (λ t. omega arith)
 
-  past-letter : (at : ℕ) → PastCharacter (length s) at (letterAt classOf s at)
+  past-letter : PastCharacter (length s) at (letterAt class s at)
   unfolding letterAt
-  past-letter at =
-      cond-cases (PastCharacter (length s) at) (has (isText classOf) s at) (λ t. omega (arith, has-lt (isText classOf) s at t)) (λ t. past-special s at at (omega arith))
+  past-letter =
+      cond-cases (PastCharacter (length s) at) (has (isText class) s at) (λ t. omega (arith, has-lt (isText class) s at t)) (λ t. past-special s at at (omega arith))
 
-  attribute-letter-on : (at : ℕ) (c : Character) → attributeLetterAt classOf s at ≡ whole c → (at < c .end) × (c .end ≤ length s)
+  past-attribute-letter : PastCharacter (length s) at (attributeLetterAt class s at)
   unfolding attributeLetterAt
-  attribute-letter-on at c q =
-      past-whole (λ c. c .end) (length s) at q (cond-cases (PastCharacter (length s) at) (has isBreak s at) (λ t. past-line-end isBreak at t) (λ t. past-letter at))
+  past-attribute-letter =
+      cond-cases (PastCharacter (length s) at) (has isBreak s at) (λ t. line-past (has-lt isBreak s at t)) (λ t. past-letter)
 
-  text-letter-on : (at : ℕ) (c : Character) → textLetterAt classOf s at ≡ whole c → (at < c .end) × (c .end ≤ length s)
+  past-text-letter : PastCharacter (length s) at (textLetterAt class s at)
   unfolding textLetterAt
-  text-letter-on at c q =
-      past-whole (λ c. c .end) (length s) at q (cond-cases (PastCharacter (length s) at) (has (is 13) s at) (λ t. past-line-end (is 13) at t) (λ t. past-letter at))
+  past-text-letter =
+      cond-cases (PastCharacter (length s) at) (has (is 13) s at) (λ t. line-past (has-lt (is 13) s at t)) (λ t. past-letter)
 
+  pub attribute-letter-on : {c : Character} → attributeLetterAt class s at ≡ whole c → (at < c .end) × (c .end ≤ length s)
+  attribute-letter-on q = past-whole (λ c. c .end) (length s) at q past-attribute-letter
+
+  pub text-letter-on : {c : Character} → textLetterAt class s at ≡ whole c → (at < c .end) × (c .end ≤ length s)
+  text-letter-on q = past-whole (λ c. c .end) (length s) at q past-text-letter
+
+module _ (s : List ℕ) where
   -- ---- a letter by itself, as it stands and as a reference names it
 
   abbrev asByte : ℕ → Character
@@ -98,9 +105,7 @@ module _ (s : List ℕ) where
 
   -- a carriage return is no `<`
   no-tag : (at : ℕ) → has (is 13) s at ≡ true → has (is 60) s at ≡ false
-  no-tag at b =
-      let thirteen = eqb-true (byteAt s at) 13 (has-byte (is 13) s at b) in
-      has-in (is 60) s at (has-lt (is 13) s at b) ∙ ne-eqb (byteAt s at) 60 (λ sixty. omega (arith, thirteen, sixty))
+  no-tag at b = has-known 13 s at b (is 60)
 
   module _ (to : ℕ) where
     -- with some fuel that is enough the reader gives the text
@@ -122,7 +127,7 @@ module _ (s : List ℕ) where
 
     pub value-said : (fuel at : ℕ) (text : List ℕ) → attributeMeaning classOf s fuel to at ≡ whole text → ValueSays s to at text
     unfolding attributeMeaning
-    value-said zero at text q = let z : _≡_ {A = ℕ} 0 1 = cc in absurd (omega arith)
+    value-said zero at text q = unread q
     value-said (suc fuel) at text q = go (value-said fuel) (ltb at to) refl q
       where
         letters : Character → Reading (List ℕ)
@@ -150,7 +155,7 @@ module _ (s : List ℕ) where
     unfolding attributeMeaning
     value-letter at c text within q rest zero some enough = absurd (omega arith)
     value-letter at c text within q rest (suc fuel) some enough =
-        let on = attribute-letter-on at c q in
+        let on = attribute-letter-on classOf s at q in
         let others = rest fuel (omega (arith, on)) (omega (arith, on)) in
         rw (lt-ltb at to within, q, others)
 
@@ -177,7 +182,7 @@ module _ (s : List ℕ) where
 
     pub content-said : (fuel at : ℕ) (text : List ℕ) → contentMeaning classOf s fuel to at ≡ whole text → ContentSays s to at text
     unfolding contentMeaning
-    content-said zero at text q = let z : _≡_ {A = ℕ} 0 1 = cc in absurd (omega arith)
+    content-said zero at text q = unread q
     content-said (suc fuel) at text q = go (content-said fuel) (ltb at to) refl q
       where
         Further : Type 0
@@ -227,7 +232,7 @@ module _ (s : List ℕ) where
     unfolding contentMeaning
     content-letter at c text within n q rest zero some enough = absurd (omega arith)
     content-letter at c text within n q rest (suc fuel) some enough =
-        let on = text-letter-on at c q in
+        let on = text-letter-on classOf s at q in
         let others = rest fuel (omega (arith, on)) (omega (arith, on)) in
         rw (lt-ltb at to within, n, q, others)
 

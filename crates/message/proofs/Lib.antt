@@ -1,14 +1,17 @@
--- `Laws` and `Digits` are about single readings, `Parts` about parts of the message; `ClassTable` computes the table. `Progress`, `MarkupLoop` and `Trees` show that what is
--- read whole ends past where it began, `Loops` what a loop over a reader keeps, and `Facts` that each element is what is read again at its place.
--- `Kept` and `Again` say what raised limits change, `ByForm` and `Unlimited` what is refused with limits out of the way, and `Raising` proves specs/Raised.
--- read whole ends past where it began, `Loops` what a loop over a reader keeps, and `Facts` that each element is what is read again at its place. `Meanings` proves promise 6,
--- with `Letters` about texts and `Decimals` about numbers in them.
+-- `Laws` and `Digits` are about single readings, `Runs` about bytes that are known and runs of them, `Parts` about parts of the message; `ClassTable` computes the table.
+-- `Progress`, `MarkupLoop` and `Trees` show that what is read whole ends past where it began, `Loops` what a loop over a reader keeps, and `Facts` that each element is what is
+-- read again at its place. `ByForm` and `Numbers` tell the numbers of refusal, of the readers that take no limits and of those that do.
+-- `Kept` says what raised limits change, and `Raising` proves specs/Raised. `Meanings` proves promise 6, with `Letters` about texts and `Decimals` about numbers in them.
 -- `Sound` is what holds in every state of the machine of `Automaton`, `Inverse` what a comment and end tags behind it say of a state, and `Alive` that the machine went through all
 -- that is before it. `TagInverse` and `PartInverse` lead back from what specs/Readable says by readers to the state of the machine.
 -- `Seven` and `Delimited` prove the promises of specs/Seven: `Numbers` tells the numbers of refusal, `Within` the elements of a message, `Carried` what their start tags
 -- carry, `Unquoted` what values hold, and `Repeated` that end tags repeat names.
+-- that is before it.
+-- `Seven` and `Delimited` prove the promises of specs/Seven: `Within` tells the elements of a message, `Carried` what their start tags carry, `Unquoted` what values hold, and
+-- `Repeated` that end tags repeat names.
 pub mod Laws
 pub mod Digits
+pub mod Runs
 pub mod Parts
 pub mod ClassTable
 pub mod Progress
@@ -23,9 +26,7 @@ pub mod Acting
 pub mod GoingNames
 pub mod GoingAttributes
 pub mod Kept
-pub mod Again
 pub mod ByForm
-pub mod Unlimited
 pub mod Raising
 pub mod Letters
 pub mod Decimals

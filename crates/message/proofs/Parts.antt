@@ -1,9 +1,9 @@
 -- Laws of runs of bytes that are compared one by one, and of a part of the message as such a run. Assumes nothing.
-use Prim.Native.Nat.{ℕ, suc, _+_, _-_, _<_, _≤_, min}
+use Prim.Native.Nat.{ℕ, zero, suc, _+_, _-_, _<_, _≤_, min}
 use mathlib.Core.Path.{_≡_, refl, sym, _∙_, ap}
 use mathlib.Core.Logic.{_⊎_, ⊎-elim}
 use mathlib.Core.Bool.{Bool, true, false, _&&_}
-use mathlib.Core.List.{List, [], _∷_}
+use mathlib.Core.List.{List, [], _∷_, _++_}
 use native.Mathlib.Nat.{min-eq-left, min-eq-right, min-le-left}
 use native.Mathlib.Numerals.{add-one}
 use native.Mathlib.Omega.{arith}
@@ -70,6 +70,17 @@ module _ (s : List ℕ) (b e : ℕ) where
 
       pub part-end : n ≤ k → true ≡ sameBytes (drop k (part s b e)) (drop k w)
       part-end h = same-end (part s b e) w k (omega (arith, part-length)) (omega arith)
+
+-- parted at a place within it
+pub part-split : (s : List ℕ) (b m e : ℕ) → b ≤ m → m ≤ e → e ≤ length s → part s b e ≡ part s b m ++ part s m e
+part-split s b m e p q l = go (m - b) b (omega arith)
+  where
+    go : (n b : ℕ) → b + n ≡ m → part s b e ≡ part s b m ++ part s m e
+    go zero b h = let same : m ≡ b = omega arith in rw (same, part-none s b b (omega arith))
+    go (suc n) b h =
+        part-some s b e (omega arith) l
+        ∙ ap (λ (r : List ℕ). getD s b 0 ∷ r) (go n (b + 1) (omega arith))
+        ∙ sym (ap (λ (r : List ℕ). r ++ part s m e) (part-some s b m (omega arith) (omega arith)))
 
 -- what a local is after `if e < n { e } else { n }`, from the way that control came
 pub lesser : {T F : Type 0} {n e stop : ℕ} → (T × (stop ≡ e)) ⊎ (F × (stop ≡ n)) → (T → e < n) → (F → n ≤ e) → stop ≡ min e n

@@ -1,7 +1,7 @@
 -- What is read whole ends past where it began and within the message, so the loops of the code end, and the fuel of the readers of specs/ is enough.
 -- Assumes nothing.
 use Prim.Native.Nat.{ℕ, zero, suc, _+_, _-_, _*_, _<_, _≤_}
-use mathlib.Core.Path.{_≡_, sym, _∙_, subst}
+use mathlib.Core.Path.{_≡_, refl, sym, _∙_, subst}
 use mathlib.Core.Bool.{Bool, true, _&&_}
 use mathlib.Core.List.{List, [], _∷_}
 use native.Mathlib.Omega.{arith}
@@ -23,6 +23,16 @@ pub every-then : {A B : Type 0} (P : A → Type 0) (Q : B → Type 0) (next : A 
 every-then P Q next (whole x) h g = g x h
 every-then P Q next (refused number place) h g = tt
 
+-- whatever the first has read
+pub every-on : {A B : Type 0} (Q : B → Type 0) (next : A → Reading B) (a : Reading A) → ((x : A) → a ≡ whole x → Every Q (next x)) → Every Q (a >>= next)
+every-on Q next (whole x) g = g x refl
+every-on Q next (refused number place) g = tt
+
+-- what follows from it
+pub every-so : {A : Type 0} (P Q : A → Type 0) → ((x : A) → P x → Q x) → (a : Reading A) → Every P a → Every Q a
+every-so P Q f (whole x) h = f x h
+every-so P Q f (refused number place) h = tt
+
 -- where the reading is whole, what was read ends past the place k, and not past n, the length of the message
 abbrev pub Past : {A : Type 0} → (A → ℕ) → ℕ → ℕ → Reading A → Type 0
 Past end n k = Every (λ x. (k < end x) × (end x ≤ n))
@@ -36,8 +46,7 @@ PastCharacter = Past (λ c. c .end)
 
 module _ {A B : Type 0} (end : A → ℕ) (end′ : B → ℕ) (n k : ℕ) where
   pub past-then : (next : A → Reading B) (a : Reading A) → Past end n k a → ((x : A) → k < end x → end x ≤ n → Past end′ n k (next x)) → Past end′ n k (a >>= next)
-  past-then next (whole x) h g = g x (h .0) (h .1)
-  past-then next (refused number place) h g = tt
+  past-then next a h g = every-then (λ x. (k < end x) × (end x ≤ n)) (λ y. (k < end′ y) × (end′ y ≤ n)) next a h (λ x p. g x (p .0) (p .1))
 
 -- what is known of a reading that was whole
 pub past-whole : {A : Type 0} (end : A → ℕ) (n k : ℕ) {a : Reading A} {x : A} → a ≡ whole x → Past end n k a → (k < end x) × (end x ≤ n)

@@ -1,35 +1,29 @@
 -- The end tag repeats the start tag's name byte by byte, a name of two parts with its colon. Assumes nothing.
-use Prim.Native.Nat.{ℕ, zero, suc, _+_, _-_, _≤_, _<_}
+use Prim.Native.Nat.{ℕ, _+_, _-_, _≤_, _<_}
 use mathlib.Core.Path.{_≡_, refl, sym, _∙_, ap, subst}
 use mathlib.Core.Bool.{true}
 use mathlib.Core.List.{List, [], _∷_, _++_}
 use native.Mathlib.Omega.{arith}
 use lib.ListN.{length, getD}
 use lib.Seq.{length-slice}
-use borrow.Author.Tests.{eq-eqb, ne-eqb, eqb-true}
+use borrow.Author.Tests.{eq-eqb, ne-eqb}
 use Rattle.message.specs.Class.{isName, isSpace}
 use Rattle.message.specs.Reading.{Reading, _>>=_, is, has, one, ends, wordAt, byteAt, blanks}
 use Rattle.message.specs.Reading.Reading.{whole}
 use Rattle.message.specs.Names.{Named, shortAt, nameAt}
 use Rattle.message.specs.Limits.{Limits}
 use Rattle.message.specs.Elements.{part, endPartAt, endNameAt, endTagAt}
-use Rattle.message.proofs.Laws.{cond-true, cond-false, cond-cases, has-lt, has-byte, one-has, ends-from}
-use Rattle.message.proofs.Progress.{past-whole}
-use Rattle.message.proofs.Trees.{whole-same, past-name}
-use Rattle.message.proofs.Parts.{part-none, part-some}
+use Rattle.message.proofs.Laws.{cond-true, cond-false, cond-cases, has-lt, one-has, ends-from}
+use Rattle.message.proofs.Runs.{byte-is}
+use Rattle.message.proofs.Trees.{whole-same, name-on}
+use Rattle.message.proofs.Parts.{part-none, part-some, part-split}
 use Rattle.message.proofs.Facts.{then-whole}
 use Rattle.message.proofs.Carried.{name-is}
 
 module _ (s : List ℕ) where
   -- a part of the message, parted at a byte
-  part-split : (n a m e : ℕ) → a + n ≡ m → m < e → e ≤ length s → part s a e ≡ part s a m ++ (byteAt s m ∷ part s (m + 1) e)
-  part-split zero a m e m-is h l =
-      let same : a ≡ m = omega arith in
-      rw (part-none s a m (omega arith)) (part-some s a e (omega arith) l ∙ ap (λ (i : ℕ). byteAt s i ∷ part s (i + 1) e) same)
-  part-split (suc n) a m e m-is h l =
-      part-some s a e (omega arith) l
-      ∙ (ap (λ (u : List ℕ). byteAt s a ∷ u) (part-split n (a + 1) m e (omega arith) h l)
-      ∙ ap (λ (u : List ℕ). u ++ (byteAt s m ∷ part s (m + 1) e)) (sym (part-some s a m (omega arith) (omega arith))))
+  parted : (a m e : ℕ) → a ≤ m → m < e → e ≤ length s → part s a e ≡ part s a m ++ (byteAt s m ∷ part s (m + 1) e)
+  parted a m e order h l = part-split s a m e order (omega arith) l ∙ ap (λ (u : List ℕ). part s a m ++ u) (part-some s m e h l)
 
   -- a word that was read stands there
   pub word-part : (w : List ℕ) (at i : ℕ) → wordAt w s at ≡ whole i → i ≤ length s → (at ≤ i) × (part s at i ≡ w)
@@ -40,7 +34,7 @@ module _ (s : List ℕ) where
       let o = one-has (is x) s at (y .0) (y .1) in
       let r = word-part w (y .0) i (y .2) l in
       let after : part s (at + 1) i ≡ w = ap (λ (j : ℕ). part s j i) (sym (o .1)) ∙ r .1 in
-      (omega (arith, r .0, o .1), part-some s at i (omega (arith, r .0, o .1)) l ∙ cons (eqb-true (byteAt s at) x (has-byte (is x) s at (o .0))) after)
+      (omega (arith, r .0, o .1), part-some s at i (omega (arith, r .0, o .1)) l ∙ cons (byte-is x s at (o .0)) after)
     where
       cons : {x y : ℕ} {u v : List ℕ} → x ≡ y → u ≡ v → x ∷ u ≡ y ∷ v
       cons p q = rw (p, q)
@@ -71,11 +65,10 @@ module _ (class : ℕ → ℕ) (s : List ℕ) (l : Limits) where
       let back : first + 1 - 1 ≡ first = omega arith in
       let leads : part s at (x .0) ≡ part s b first = lead .1 ∙ ap (part s b) back in
       let rests : part s (x .0 + 1) i ≡ part s (first + 1) e = ap (λ (j : ℕ). part s j i) (sym (o .1)) ∙ rest .1 in
-      let colons : byteAt s (x .0) ≡ byteAt s first =
-      eqb-true (byteAt s (x .0)) 58 (has-byte (is 58) s (x .0) (o .0)) ∙ sym (eqb-true (byteAt s first) 58 (has-byte (is 58) s first colon)) in (
+      let colons : byteAt s (x .0) ≡ byteAt s first = byte-is 58 s (x .0) (o .0) ∙ sym (byte-is 58 s first colon) in (
         omega (arith, lead .0, rest .0, o .1),
-        part-split s (x .0 - at) at (x .0) i (omega (arith, lead .0)) (omega (arith, rest .0, o .1)) h
-            ∙ (joined leads colons rests ∙ sym (part-split s (first - b) b first e (omega arith) room within)),
+        parted s at (x .0) i (lead .0) (omega (arith, rest .0, o .1)) h
+            ∙ (joined leads colons rests ∙ sym (parted s b first e after room within)),
       )
     where
       joined : {u u′ v v′ : List ℕ} {x x′ : ℕ} → u ≡ u′ → x ≡ x′ → v ≡ v′ → u ++ (x ∷ v) ≡ u′ ++ (x′ ∷ v′)
@@ -91,13 +84,13 @@ module _ (class : ℕ → ℕ) (s : List ℕ) (l : Limits) where
       (λ t l′ q′. end-one-part b first at i q′ h)) within q
 
   -- an end tag begins with the start tag's name
-  pub end-tag : (b : ℕ) (name : Named) → 0 < b → nameAt class (l .part) s b ≡ whole name → (at e : ℕ) → endTagAt class s l b name at ≡ whole e
+  pub end-tag : (b : ℕ) (name : Named) → nameAt class (l .part) s b ≡ whole name → (at e : ℕ) → endTagAt class s l b name at ≡ whole e
       → part s at (at + (name .end - b)) ≡ part s b (name .end)
   unfolding endTagAt
-  end-tag b name some named at e q =
+  end-tag b name named at e q =
       let x = then-whole _ (endNameAt class s l b name at) e q in
       let o = one-has (is 62) s (blanks class s (x .0)) e (x .2) in
-      let on = past-whole (λ n. n .end) (length s) (b - 1) named (past-name class s (b - 1) (l .part) b (omega arith)) in
+      let on = name-on class s (l .part) named in
       let i-in : x .0 ≤ length s = omega (arith, ends-from (isSpace class) s (x .0), has-lt (is 62) s (blanks class s (x .0)) (o .0)) in
       let r = end-name b name named (on .1) at (x .0) (x .1) i-in in
       let lengths : x .0 - at ≡ name .end - b = sym (length-slice at (x .0) s i-in) ∙ (ap length (r .1) ∙ length-slice b (name .end) s (on .1)) in

@@ -25,14 +25,12 @@ use Rattle.message.specs.declared.Kind.{Kind}
 use Rattle.message.specs.declared.Kind.the-variants as kinds
 use Rattle.message.specs.declared.Message.{Message}
 use Rattle.message.proofs.Laws.{went, cond-true, cond-false, cond-cases}
-use Rattle.message.proofs.Trees.{whole-same}
-use Rattle.message.proofs.Facts.{then-whole}
-use Rattle.message.proofs.Numbers.{refuses-number, told-document}
-use Rattle.message.proofs.Within.{WasRead, EachRead, root-read, inside-read, Attributed, attributed}
+use Rattle.message.proofs.Trees.{whole-same, unread}
+use Rattle.message.proofs.Facts.{then-whole, Attributed}
+use Rattle.message.proofs.ByForm.{refuses-number}
+use Rattle.message.proofs.Numbers.{Holds, told-document}
+use Rattle.message.proofs.Within.{WasRead, EachRead, root-read, inside-read, attributes-read}
 use Rattle.message.proofs.Carried.{called-carries, carries-called}
-
-unread : {A : Type 0} {B : Type 0} {x : A} {n p : ℕ} → refused n p ≡ whole x → B
-unread e = let z : _≡_ {A = ℕ} 0 1 = cc in absurd (omega arith)
 
 reads-then : {A B : Type 0} {a : Reading A} {x : A} (next : A → Reading B) → a ≡ whole x → isWhole (next x) ≡ true → isWhole (a >>= next) ≡ true
 reads-then next q h = rw q h
@@ -67,7 +65,7 @@ kind-word name k = next kinds.SessionOpenRequest (next kinds.SessionOpenResponse
 
 -- ---- a reading that is whole or 13
 
-data Decided {A : Type 0} : Reading A → Type 0 where
+pub data Decided {A : Type 0} : Reading A → Type 0 where
   read : (x : A) → Decided (whole x)
   thirteen : Decided (refused 13 0)
 
@@ -94,7 +92,7 @@ module _ (s : List ℕ) where
 
   -- ---- elements by their names
 
-  only-child : (w : List ℕ) (es : Elements) (e : Element) → onlyChild s w es ≡ whole e → (es ≡ more (e .tag) (e .inside) none) × Called s w (e .tag)
+  pub only-child : (w : List ℕ) (es : Elements) (e : Element) → onlyChild s w es ≡ whole e → (es ≡ more (e .tag) (e .inside) none) × Called s w (e .tag)
   only-child w none e q = unread q
   only-child w (more t inner none) e q = go (called s w t) refl q
     where
@@ -132,14 +130,14 @@ module _ (s : List ℕ) (l : Limits) where
   decided-needed missing = thirteen
   decided-needed (found from to) = read _
 
-  module _ (w : List ℕ) (tag : Tag) (a : Attributed classOf s l tag) where
-    abbrev value : Reading Quoted
+  module _ (w : List ℕ) (tag : Tag) (a : Attributed classOf s l (tag .name)) where
+    abbrev pub value : Reading Quoted
     value = attributeCalled classOf l s (length s) w (tag .name .end)
 
-    value-there : (v : Quoted) → value ≡ whole v → HasAttribute s w tag v
+    pub value-there : (v : Quoted) → value ≡ whole v → HasAttribute s w tag v
     value-there v q = called-carries s l w (length s) [] (tag .name .end) (a .0) v (a .1) q
 
-    there-value : (v : Quoted) → HasAttribute s w tag v → value ≡ whole v
+    pub there-value : (v : Quoted) → HasAttribute s w tag v → value ≡ whole v
     there-value v c = carries-called s l w (length s) [] (tag .name .end) (a .0) v (a .1) c
 
     shows-number : ShowsNumber s w tag (numberValue classOf s (attributeOf classOf l s w tag))
@@ -164,7 +162,7 @@ module _ (s : List ℕ) (l : Limits) where
   -- ---- the seven
 
   module _ (root : Element) where
-    abbrev rest : Reading Message
+    abbrev pub rest : Reading Message
     rest = kindOf (part s (root .tag .name .local) (root .tag .name .end)) >>= messageOfKind classOf l s root
 
     begun : (k : Kind) → Called s (kindWord k) (root .tag) → isWhole (messageOfKind classOf l s root k) ≡ true → isWhole rest ≡ true
@@ -181,15 +179,15 @@ module _ (s : List ℕ) (l : Limits) where
         decided-then _ (decided-only s words.queryRequest (root .inside)) (λ e. decided-then _ (decided-needed (attributeOf classOf l s words.identity (e .tag))) (λ v. read _))
     decided-of-kind kinds.Response = decided-then _ (decided-only s words.queryResponse (root .inside)) (λ e. read _)
 
-    decided : Decided rest
+    pub decided : Decided rest
     decided = decided-then (messageOfKind classOf l s root) (decided-kind (part s (root .tag .name .local) (root .tag .name .end))) decided-of-kind
 
     module _ (was : WasRead classOf s l root) where
-      own : Attributed classOf s l (root .tag)
-      own = attributed classOf s l root was
+      pub own : Attributed classOf s l (root .tag .name)
+      own = attributes-read classOf s l root was
 
-      childs : (w : List ℕ) (e : Element) → OnlyChild s w root e → Attributed classOf s l (e .tag)
-      childs w e c = attributed classOf s l e (subst (EachRead classOf s l) (c .0) (inside-read classOf s l root was) .0)
+      pub childs : (w : List ℕ) (e : Element) → OnlyChild s w root e → Attributed classOf s l (e .tag .name)
+      childs w e c = attributes-read classOf s l e (subst (EachRead classOf s l) (c .0) (inside-read classOf s l root was) .0)
 
       rest-one : (m : Message) → rest ≡ whole m → OneOfSeven s root m
       rest-one m q =
@@ -263,6 +261,9 @@ pub thirteen-is-none : ThirteenIsNone
 unfolding messageAt
 thirteen-is-none s l p q = go (documentAt classOf s l 0) refl
   where
+    other : Holds Other s l
+    other = record { eight = λ h z. omega arith; nine = λ z. omega arith; ten = λ h z. omega arith; eleven = λ h z. omega arith; twelve = λ z. omega arith; fourteen = λ h z. omega arith }
+
     place : (r : Reading Message) → Decided r → r ≡ refused 13 p → p ≡ 0
     place _ (read m) h = unread (sym h)
     place _ thirteen h = cc
@@ -274,4 +275,4 @@ thirteen-is-none s l p q = go (documentAt classOf s l 0) refl
     go (refused n p′) e =
         let h : refused n p′ ≡ refused 13 p = sym (ap (λ (d : Reading Element). d >>= (λ root. rest s l root)) e) ∙ q in
         let z : n ≡ 13 = cc in
-        absurd (refuses-number {P = Other} n p′ (told-document Other (λ z. omega arith) s classOf (λ z. omega arith) l (λ z. omega arith) (λ z. omega arith) (λ z. omega arith) (λ z. omega arith) 0) e z)
+        absurd (refuses-number {P = Other} n p′ (told-document Other classOf s l other 0) e z)

@@ -21,8 +21,7 @@ use Rattle.message.specs.Due.{Spelled, Declares, Opening, doctype, cdata
 use Rattle.message.proofs.Laws.{and-true, or-true, has-in, has-lt, has-byte, one-yes, one-has, both-first, both-second}
 use Rattle.message.proofs.Parts.{part-length, part-some, part-none}
 use Rattle.message.proofs.Repeated.{word-part}
-use Rattle.message.proofs.Carried.{either}
-use Rattle.laws.proofs.Tests.{never}
+use Rattle.laws.proofs.Tests.{never, either}
 use Rattle.message.proofs.GoingMarkup.{or-last, not-both, byte-test, bang-no-start}
 use Rattle.message.proofs.GoingDeclaration.{word-first, whole-is, question-no-start}
 use Rattle.message.proofs.Automaton.{Ground}

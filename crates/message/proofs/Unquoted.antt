@@ -9,23 +9,18 @@ use native.Mathlib.Decide.{decLt}
 use lib.ListN.{length}
 use lib.Dec.{leb, eqb}
 use borrow.Author.Tests.{eqb-true, eq-eqb}
-use Rattle.laws.proofs.Tests.{true-false}
+use Rattle.laws.proofs.Tests.{true-false, either, neither}
 use Rattle.message.specs.Class.{classOf, between, isText, isPlain}
 use Rattle.message.specs.Reading.{Reading, _>>=_, is, byteAt, isQuote, has, one, ends, wordAt}
 use Rattle.message.specs.Characters.{Character, later, secondOfThree, thirdOfThree, secondOfFour, twoAt, threeAt, lastTwoAt, fourAt, longAt, isDigit, digitOf, digitsAt, closes, numberedAt, standsAt, predefinedAt, referenceAt}
 use Rattle.message.specs.Text.{specialAt, beyondPlainInAt, valueAt}
 use Rattle.message.proofs.Laws.{cond-cases, has-in, has-lt, has-byte, ends-more, ends-stop, ends-out}
 use Rattle.message.proofs.Progress.{Every, every-then}
-use Rattle.message.proofs.Carried.{either}
 
 -- the byte stands in the word
 abbrev holds : List ℕ → ℕ → Bool
 holds [] y = false
 holds (x ∷ word) y = is x y || holds word y
-
-neither : (a b : Bool) → (a || b) ≡ false → (a ≡ false) × (b ≡ false)
-neither true b e = absurd (true-false refl e)
-neither false b e = (refl, e)
 
 module _ (s : List ℕ) (q : ℕ) where
   -- from one place up to another no byte is q

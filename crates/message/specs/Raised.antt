@@ -6,7 +6,7 @@ use mathlib.Core.Logic.{_⊎_}
 use mathlib.Core.List.{List}
 use lib.ListN.{length}
 use Rattle.message.specs.Class.{classOf}
-use Rattle.message.specs.Reading.Reading.{whole, refused}
+use Rattle.message.specs.Reading.Reading.{refused}
 use Rattle.message.specs.Limits.{Limits}
 use Rattle.message.specs.Messages.{messageOf}
 

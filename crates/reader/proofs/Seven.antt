@@ -28,8 +28,9 @@ use Rattle.message.specs.declared.NumberValue.{NumberValue}
 use Rattle.message.specs.declared.Message.{Message}
 use Rattle.elements.specs.declared.Inside.{Inside}
 use Rattle.elements.specs.declared.Seen.{Seen}
-use Rattle.message.proofs.Trees.{whole-same}
-use Rattle.message.proofs.Facts.{then-whole, Reads, Stands, element-stands, document-root}
+use Rattle.message.proofs.Trees.{whole-same, unread}
+use Rattle.message.proofs.Seven.{only-child}
+use Rattle.message.proofs.Facts.{then-whole, refused-then, Reads, Stands, element-stands, document-root}
 use Rattle.elements.proofs.ContentLoop.{seen-whole, seen-refused}
 
 -- ---- a value that is needed
@@ -48,10 +49,6 @@ module _ (a : Reading Quoted) (next : Found → Reading Message) where
       go : (a : Reading Quoted) → isWhole a ≡ true → next (foundIn a) ≡ (needed (foundIn a) >>= next)
       go (whole v) h = refl
       go (refused n p) h = let z : _≡_ {A = ℕ} 0 1 = cc in absurd (omega arith)
-
-pub refused-then : {A B : Type 0} (a : Reading A) (f : A → B) {n p : ℕ} → (a >>= (λ x. whole (f x))) ≡ refused n p → a ≡ refused n p
-refused-then (whole x) f q = let z : _≡_ {A = ℕ} 0 1 = cc in absurd (omega arith)
-refused-then (refused n′ p′) f {n} {p} q = let y : n′ ≡ n = cc in let z : p′ ≡ p = cc in rw (y, z)
 
 module _ (class : ℕ → ℕ) (s : List ℕ) where
   abbrev level : ℕ → ℕ → Reading Element
@@ -123,15 +120,6 @@ module _ (class : ℕ → ℕ) (s : List ℕ) where
     pub value-there : (next : Found → Reading Message) → isWhole v ≡ true → next (foundIn v) ≡ (needed (attributeOf class linkLimits s w tag) >>= next)
     value-there next h = ap next value-is ∙ needed-some (valueFrom w (tag .name .end)) next (ap isWhole (sym found-is) ∙ h)
 
-  only-alone : (w : List ℕ) (es : Elements) (x : Element) → onlyChild s w es ≡ whole x → es ≡ more (x .tag) (x .inside) none
-  only-alone w none x q = let z : _≡_ {A = ℕ} 0 1 = cc in absurd (omega arith)
-  only-alone w (more t inner none) x q = go (called s w t) q
-    where
-      go : (b : Bool) → cond b (whole (record { tag = t; inside = inner })) noMessage ≡ whole x → more t inner none ≡ more (x .tag) (x .inside) none
-      go true h = ap (λ (y : Element). more (y .tag) (y .inside) none) (whole-same h)
-      go false h = let z : _≡_ {A = ℕ} 0 1 = cc in absurd (omega arith)
-  only-alone w (more t inner (more t′ inner′ others)) x q = let z : _≡_ {A = ℕ} 0 1 = cc in absurd (omega arith)
-
   -- ---- the root, held on to
 
   module _ (held : Seen) (root : Element) (so : level 32 (held .begin - 1) ≡ whole root) (held-is : held ≡ seenOf s root) where
@@ -167,7 +155,7 @@ module _ (class : ℕ → ℕ) (s : List ℕ) where
     pub child-is : (w : List ℕ) (e : ℕ) → onlyCalled class s w (held .inside) ≡ whole e → Child w e
     child-is w e q =
         let x = then-whole (λ y. whole (y .tag .name .end)) (onlyChild s w (root .inside)) e (sym (only-is w) ∙ q) in
-        let alone = only-alone w (root .inside) (x .0) (x .1) in
+        let alone = only-child s w (root .inside) (x .0) (x .1) .0 in
         let reads = subst (Reads class s linkLimits (level 31)) alone (stands .inner) in
         record { child = x .0; only = x .1; end = sym (whole-same (x .2)); inner = again 30 (x .0 .tag) (x .0 .inside) (reads .0) .inner; nested = ap (λ (i : Inside). i .nested) (inside-is ∙ ap (insideOf s) alone) }
 
@@ -220,10 +208,7 @@ classes-same s at h = ap (λ (f : ℕ → ℕ). messageAt f linkLimits s at) h
 
 module _ (class : ℕ → ℕ) (s : List ℕ) (b : ℕ) (e : Element) (so : elementAt class s linkLimits 30 (b - 1) ≡ whole e) where
   pub type-unread : {A : Type 0} {n p : ℕ} → seen s (elementAt class s linkLimits 30 (b - 1)) ≡ refused n p → A
-  type-unread {A} {n} {p} q = absurd (clash (sym so ∙ seen-refused s (elementAt class s linkLimits 30 (b - 1)) q))
-    where
-      clash : whole e ≡ refused n p → ⊥
-      clash h = let z : _≡_ {A = ℕ} 0 1 = cc in omega arith
+  type-unread q = unread (sym (seen-refused s (elementAt class s linkLimits 30 (b - 1)) q) ∙ so)
 
   advice-is : (x : Element) → adviceSeen class s (seenOf s x) ≡ typeAdvice class s (x .inside) (x .tag .from) (x .tag .to)
   advice-is x = go (x .inside)

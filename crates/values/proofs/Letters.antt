@@ -3,7 +3,7 @@
 use Prim.Native.Nat.{ℕ, zero, suc, _+_, _-_, _*_, _<_, _≤_}
 use mathlib.Core.Path.{_≡_, refl, sym, _∙_, ap}
 use mathlib.Core.Logic.{_⊎_, ⊎-elim}
-use mathlib.Core.Bool.{Bool, true, false, _&&_}
+use mathlib.Core.Bool.{Bool, true, false}
 use mathlib.Core.List.{List, [], _∷_}
 use native.Mathlib.Numerals.{add-one}
 use native.Mathlib.Omega.{arith}
@@ -13,49 +13,19 @@ use lib.Seq.{drop-cons}
 use lib.Dec.{eqb}
 use borrow.Author.Tests.{lt-ltb, le-ltb, le-leb, lt-leb, eq-eqb, ne-eqb}
 use Rattle.laws.specs.Bytes.{sameBytes}
-use Rattle.message.specs.Class.{between, isText}
+use Rattle.message.specs.Class.{between}
 use Rattle.message.specs.Reading.{Reading, _>>=_, is, byteAt, has}
 use Rattle.message.specs.Reading.Reading.{whole, refused}
 use Rattle.message.specs.Characters.{Character}
 use Rattle.message.specs.Markup.{bangAt}
-use Rattle.message.proofs.Laws.{cond-cases, both-second, has-lt, between-yes}
-use Rattle.message.proofs.Progress.{PastCharacter, past-whole, past-special}
-use Rattle.message.specs.Values.{lineEnd, isBreak, letterAt, attributeLetterAt, textLetterAt, attributeMeaning, contentMeaning, means, decimalFrom, numberFrom, decimalOf, numberOf}
+use Rattle.message.proofs.Laws.{between-yes}
+use Rattle.message.specs.Values.{attributeLetterAt, textLetterAt, attributeMeaning, contentMeaning, means, decimalFrom, numberFrom, decimalOf, numberOf}
 use Rattle.message.specs.declared.Number.{Number}
 use Rattle.message.specs.declared.Number.the-variants.{Nothing, Names}
 
 -- two characters that have one number and end at one place
 pub same-end : {e e′ c : ℕ} → e ≡ e′ → _≡_ {A = Reading Character} (whole (record { end = e; code = c })) (whole (record { end = e′; code = c }))
 same-end h = rw h
-
--- ---- a letter that is read ends past its place
-
-module _ (class : ℕ → ℕ) (s : List ℕ) (at : ℕ) where
-  line-past : at < length s → (at < lineEnd s at) × (lineEnd s at ≤ length s)
-  line-past h =
-      cond-cases (λ e. (at < e) × (e ≤ length s)) (has (is 13) s at && has (is 10) s (at + 1))
-      (λ t. omega (arith, has-lt (is 10) s (at + 1) (both-second (has (is 13) s at) (has (is 10) s (at + 1)) t))) (λ t. omega arith)
-
-  past-letter : PastCharacter (length s) at (letterAt class s at)
-  unfolding letterAt
-  past-letter =
-      cond-cases (PastCharacter (length s) at) (has (isText class) s at) (λ t. omega (arith, has-lt (isText class) s at t)) (λ t. past-special s at at (omega arith))
-
-  past-attribute-letter : PastCharacter (length s) at (attributeLetterAt class s at)
-  unfolding attributeLetterAt
-  past-attribute-letter =
-      cond-cases (PastCharacter (length s) at) (has isBreak s at) (λ t. line-past (has-lt isBreak s at t)) (λ t. past-letter)
-
-  past-text-letter : PastCharacter (length s) at (textLetterAt class s at)
-  unfolding textLetterAt
-  past-text-letter =
-      cond-cases (PastCharacter (length s) at) (has (is 13) s at) (λ t. line-past (has-lt (is 13) s at t)) (λ t. past-letter)
-
-  pub attribute-letter-on : {c : Character} → attributeLetterAt class s at ≡ whole c → (at < c .end) × (c .end ≤ length s)
-  attribute-letter-on q = past-whole (λ c. c .end) (length s) at q past-attribute-letter
-
-  pub text-letter-on : {c : Character} → textLetterAt class s at ≡ whole c → (at < c .end) × (c .end ≤ length s)
-  text-letter-on q = past-whole (λ c. c .end) (length s) at q past-text-letter
 
 -- ---- a letter, and what the letters behind it mean
 

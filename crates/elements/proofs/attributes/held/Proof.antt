@@ -18,7 +18,8 @@ use Rattle.message.proofs.Loops.{Left, left-first}
 use Rattle.message.specs.Limits.{linkLimits}
 use Rattle.message.specs.Elements.{attributesAt}
 use Rattle.elements.specs.Held.{names, Within}
-use Rattle.elements.proofs.AttributeLaws.{span-is, left-held, fresh-held, quoted-on, attributes, attributes-done, attributes-unnamed, attributes-no-value, attributes-on}
+use Rattle.message.proofs.Trees.{quoted-on}
+use Rattle.elements.proofs.AttributeLaws.{span-is, left-held, fresh-held, attributes, attributes-done, attributes-unnamed, attributes-no-value, attributes-on}
 use Rattle.elements.proofs.HeldNames.{within-none, within-more}
 
 abbrev Inv-loop : tie.InvT-loop

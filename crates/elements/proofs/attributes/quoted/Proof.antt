@@ -8,7 +8,7 @@ use native.Mathlib.Omega.{arith}
 use Rattle.message.specs.Elements.{quotedAt}
 use Rattle.scan.proofs.Said.{place-is}
 use Rattle.message.proofs.Laws.{went, stopped}
-use Rattle.elements.proofs.AttributeLaws.{opened-on}
+use Rattle.message.proofs.Trees.{opened-on}
 
 opened-requires : tie.Need-opened-requires
 opened-requires c κs = search needs

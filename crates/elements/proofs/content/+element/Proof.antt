@@ -29,7 +29,7 @@ use Rattle.elements.specs.Seen.{nothingInside, seen, toldSaid}
 use Rattle.elements.specs.declared.Inside.{Inside}
 use Rattle.elements.proofs.EndTags.{name-stands}
 use Rattle.message.proofs.Facts.{start-starts}
-use Rattle.elements.proofs.FreeLoop.{free-whole}
+use Rattle.message.proofs.Trees.{free-whole}
 use Rattle.elements.proofs.ContentLoop.{ContentLeft, readsContent, content-first, content-refused, content-closed, content-child-refused, content-child, seen-on, emptied-is, element-none, element-some, element-asked, started-is}
 
 abbrev μ-element : Measures 2 element-kinds.ps ℕ

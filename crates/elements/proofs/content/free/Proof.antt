@@ -13,7 +13,8 @@ use Rattle.message.proofs.Laws.{went, cond-true, cond-false}
 use Rattle.message.proofs.Loops.{Left, left-first, left-on, left-done}
 use Rattle.message.proofs.MarkupLoop.{bang-on}
 use Rattle.message.specs.Elements.{freeAt}
-use Rattle.elements.proofs.FreeLoop.{frees, text-whole}
+use Rattle.message.proofs.Trees.{text-whole}
+use Rattle.elements.proofs.FreeLoop.{frees}
 
 abbrev Inv-loop : tie.InvT-loop
 Inv-loop s table at i₀ i = Left (frees (classIn table) s) (freeAt (classIn table) s (length s) at) i

@@ -13,7 +13,8 @@ use Rattle.message.proofs.Loops.{Left, left-first}
 use Rattle.message.specs.Limits.{linkLimits}
 use Rattle.message.specs.Messages.{attributeCalled}
 use Rattle.elements.specs.Held.{spanSaid}
-use Rattle.elements.proofs.AttributeLaws.{span-is, quoted-on, lookup, called-unnamed, called-no-value, called-found, called-further, called-on}
+use Rattle.message.proofs.Trees.{quoted-on}
+use Rattle.elements.proofs.AttributeLaws.{span-is, lookup, called-unnamed, called-no-value, called-found, called-further, called-on}
 
 abbrev Inv-loop : tie.InvT-loop
 Inv-loop s table at word i₀ i = Left (lookup (classIn table) s linkLimits word) (attributeCalled (classIn table) linkLimits s (length s) word at) i

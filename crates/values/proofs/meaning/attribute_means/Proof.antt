@@ -11,7 +11,8 @@ use lib.ListN.{length, drop}
 use Rattle.message.specs.Class.{classIn}
 use Rattle.scan.proofs.Said.{character-is}
 use Rattle.message.specs.Values.{attributeMeaning, means}
-use Rattle.values.proofs.Letters.{attribute-letter-on, attribute-goes, attribute-stops, attribute-ends, Judged, spelled-refused, spelled-all, spelled-more, spelled-other, spelled-same}
+use Rattle.message.proofs.Letters.{attribute-letter-on}
+use Rattle.values.proofs.Letters.{attribute-goes, attribute-stops, attribute-ends, Judged, spelled-refused, spelled-all, spelled-more, spelled-other, spelled-same}
 
 abbrev Inv-loop : tie.InvT-loop
 Inv-loop s table from to word k₀ i₀ k i = (k ≤ length word) × Judged means (length s) (λ fuel. attributeMeaning (classIn table) s fuel to) (means word (attributeMeaning (classIn table) s (suc (length s)) to from)) (drop k word) i

@@ -12,7 +12,8 @@ use Rattle.message.specs.Class.{classIn}
 use Rattle.scan.proofs.Said.{place-is, character-is}
 use Rattle.message.proofs.MarkupLoop.{bang-on}
 use Rattle.message.specs.Values.{contentMeaning, means}
-use Rattle.values.proofs.Letters.{text-letter-on, content-goes, content-stops, comment-goes, comment-stops, content-ends, Judged, spelled-refused, spelled-all, spelled-past, spelled-more, spelled-other, spelled-same}
+use Rattle.message.proofs.Letters.{text-letter-on}
+use Rattle.values.proofs.Letters.{content-goes, content-stops, comment-goes, comment-stops, content-ends, Judged, spelled-refused, spelled-all, spelled-past, spelled-more, spelled-other, spelled-same}
 
 abbrev Inv-loop : tie.InvT-loop
 Inv-loop s table from to word k₀ i₀ k i = (k ≤ length word) × Judged means (length s) (λ fuel. contentMeaning (classIn table) s fuel to) (means word (contentMeaning (classIn table) s (suc (length s)) to from)) (drop k word) i

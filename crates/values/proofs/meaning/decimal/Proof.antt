@@ -11,7 +11,8 @@ use Rattle.message.specs.Class.{classIn}
 use Rattle.scan.proofs.Said.{character-is}
 use Rattle.message.proofs.Laws.{between-below, between-above}
 use Rattle.message.specs.Values.{attributeMeaning, numberFrom}
-use Rattle.values.proofs.Letters.{attribute-letter-on, attribute-goes, attribute-stops, attribute-ends, Judged, counted-refused, counted-all, counted-none, counted-large, counted-digit}
+use Rattle.message.proofs.Letters.{attribute-letter-on}
+use Rattle.values.proofs.Letters.{attribute-goes, attribute-stops, attribute-ends, Judged, counted-refused, counted-all, counted-none, counted-large, counted-digit}
 
 abbrev Inv-loop : tie.InvT-loop
 Inv-loop s table from to number₀ i₀ number i = (number ≤ 4294967295) × Judged numberFrom (length s) (λ fuel. attributeMeaning (classIn table) s fuel to) (numberFrom 0 (attributeMeaning (classIn table) s (suc (length s)) to from)) number i
