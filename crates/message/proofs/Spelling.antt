@@ -17,7 +17,8 @@ use Rattle.message.specs.Markup.{declares}
 use Rattle.message.specs.Words.{codes}
 use Rattle.message.specs.Limits.{Limits}
 use Rattle.message.specs.Elements.{part}
-use Rattle.message.specs.Due.{Spelled, Declares, Opening, doctype, cdata, instruction}
+use Rattle.message.specs.Readable.{Spelled}
+use Rattle.message.specs.Due.{Declares, Opening, doctype, cdata, instruction}
 use Rattle.message.proofs.Laws.{and-true, or-true, has-in, has-lt, has-byte, one-yes, one-has, both-first, both-second}
 use Rattle.message.proofs.Parts.{part-length, part-some, part-none}
 use Rattle.message.proofs.Repeated.{word-part}

@@ -7,12 +7,7 @@ use lib.ListN.{length, take}
 use Rattle.message.specs.Class.{classOf, isStart, isName, isSpace}
 use Rattle.message.specs.Reading.{is, has, ends, blanks}
 use Rattle.message.specs.Words.{codes}
-use Rattle.message.specs.Elements.{part}
-use Rattle.message.specs.Readable.{Readable, Continues, MarkupMayBegin, Open, TagStands, PartStands}
-
--- the word stands at the place
-abbrev pub Spelled : List ℕ → List ℕ → ℕ → Type 0
-Spelled w s p = part s p (p + length w) ≡ w
+use Rattle.message.specs.Readable.{Readable, Continues, MarkupMayBegin, Spelled, Open, TagStands, PartStands}
 
 -- the message begins with `<?xml` and white space
 abbrev pub Declares : List ℕ → Type 0

@@ -3,15 +3,16 @@ use Prim.Native.Nat.{ℕ, _+_, _*_, _<_, _≤_}
 use mathlib.Core.Path.{_≡_}
 use mathlib.Core.Bool.{true, false}
 use mathlib.Core.List.{List, [], _∷_, _++_}
+use lib.ListN.{length}
 use Rattle.message.specs.Class.{classOf, isText}
 use Rattle.message.specs.Reading.{is, byteAt, has}
 use Rattle.message.specs.Reading.Reading.{whole}
-use Rattle.message.specs.Characters.{Character}
+use Rattle.message.specs.Characters.{Character, legal}
 use Rattle.message.specs.Text.{specialAt}
 use Rattle.message.specs.Markup.{bangAt}
+use Rattle.message.specs.Readable.{Spelled}
 use Rattle.message.specs.Elements.{Elements}
 use Rattle.message.specs.Elements.Elements.{none}
-use Rattle.message.specs.Values.{isBreak, lineEnd}
 use Rattle.message.specs.Messages.Found.{found}
 use Rattle.message.specs.Messages.{numberValue, statusValue, typeAdvice}
 use Rattle.message.specs.Words.{codes, okStatus, redundantStatus, unreadableMessage}
@@ -22,24 +23,72 @@ use Rattle.message.specs.declared.Advice.the-variants as advices
 -- ---- texts, character by character
 
 module _ (s : List ℕ) where
+  -- a tab, a line feed, or a carriage return with no line feed behind it
+  pub data Break (at : ℕ) : Type 0 where
+    tab : has (is 9) s at ≡ true → Break at
+    feed : has (is 10) s at ≡ true → Break at
+    return : has (is 13) s at ≡ true → has (is 10) s (at + 1) ≡ false → Break at
+
+  -- none of them
+  pub record NoBreak (at : ℕ) : Type 0 where
+    pub no-tab : has (is 9) s at ≡ false
+    pub no-feed : has (is 10) s at ≡ false
+    pub no-return : has (is 13) s at ≡ false
+
   -- what stands in an attribute's value from one place up to another: literal tab, line feed and carriage return are a space, CR LF one, and a
   -- reference is the character that it names
   pub data ValueSays (to : ℕ) : ℕ → List ℕ → Type 0 where
     done : {at : ℕ} → to ≤ at → ValueSays to at []
-    space : {at : ℕ} {text : List ℕ} → at < to → has isBreak s at ≡ true → ValueSays to (lineEnd s at) text → ValueSays to at (32 ∷ text)
-    byte : {at : ℕ} {text : List ℕ} → at < to → has isBreak s at ≡ false → has (isText classOf) s at ≡ true → ValueSays to (at + 1) text → ValueSays to at (byteAt s at ∷ text)
-    special : {at : ℕ} {text : List ℕ} (c : Character) → at < to → has isBreak s at ≡ false → has (isText classOf) s at ≡ false → specialAt s at ≡ whole c
+    pair : {at : ℕ} {text : List ℕ} → at < to → has (is 13) s at ≡ true → has (is 10) s (at + 1) ≡ true → ValueSays to (at + 2) text → ValueSays to at (32 ∷ text)
+    space : {at : ℕ} {text : List ℕ} → at < to → Break at → ValueSays to (at + 1) text → ValueSays to at (32 ∷ text)
+    byte : {at : ℕ} {text : List ℕ} → at < to → NoBreak at → has (isText classOf) s at ≡ true → ValueSays to (at + 1) text → ValueSays to at (byteAt s at ∷ text)
+    special : {at : ℕ} {text : List ℕ} (c : Character) → at < to → NoBreak at → has (isText classOf) s at ≡ false → specialAt s at ≡ whole c
         → ValueSays to (c .end) text → ValueSays to at (c .code ∷ text)
 
   -- the same between tags: CR LF and a lone CR are a line feed, and comments mean nothing
   pub data ContentSays (to : ℕ) : ℕ → List ℕ → Type 0 where
     done : {at : ℕ} → to ≤ at → ContentSays to at []
     comment : {at e : ℕ} {text : List ℕ} → at < to → has (is 60) s at ≡ true → bangAt classOf s at ≡ whole e → ContentSays to e text → ContentSays to at text
-    line : {at : ℕ} {text : List ℕ} → at < to → has (is 13) s at ≡ true → ContentSays to (lineEnd s at) text → ContentSays to at (10 ∷ text)
+    pair : {at : ℕ} {text : List ℕ} → at < to → has (is 13) s at ≡ true → has (is 10) s (at + 1) ≡ true → ContentSays to (at + 2) text → ContentSays to at (10 ∷ text)
+    line : {at : ℕ} {text : List ℕ} → at < to → has (is 13) s at ≡ true → has (is 10) s (at + 1) ≡ false → ContentSays to (at + 1) text → ContentSays to at (10 ∷ text)
     byte : {at : ℕ} {text : List ℕ} → at < to → has (is 60) s at ≡ false → has (is 13) s at ≡ false → has (isText classOf) s at ≡ true → ContentSays to (at + 1) text
         → ContentSays to at (byteAt s at ∷ text)
     special : {at : ℕ} {text : List ℕ} (c : Character) → at < to → has (is 60) s at ≡ false → has (is 13) s at ≡ false → has (isText classOf) s at ≡ false → specialAt s at ≡ whole c
         → ContentSays to (c .end) text → ContentSays to at (c .code ∷ text)
+
+-- ---- the characters that references name
+
+-- a digit of a base, and what it counts for
+pub data Digit (base : ℕ) : ℕ → ℕ → Type 0 where
+  figure : (d : ℕ) → d < 10 → d < base → Digit base (48 + d) d
+  capital : (d : ℕ) → 10 ≤ d → d < base → Digit base (55 + d) d
+  small : (d : ℕ) → 10 ≤ d → d < base → Digit base (87 + d) d
+
+-- a number in a base, perhaps with leading zeros
+pub data Digits (base : ℕ) : ℕ → List ℕ → Type 0 where
+  first : (x d : ℕ) → Digit base x d → Digits base d (x ∷ [])
+  further : {n : ℕ} {word : List ℕ} (x d : ℕ) → Digit base x d → Digits base n word → Digits base (n * base + d) (word ++ (x ∷ []))
+
+-- what a reference that stands at the place is read as
+pub record References (s : List ℕ) (at : ℕ) : Type 0 where
+  pub less : Spelled (codes "&lt;") s at → specialAt s at ≡ whole (record { end = at + 4; code = 60 })
+  pub greater : Spelled (codes "&gt;") s at → specialAt s at ≡ whole (record { end = at + 4; code = 62 })
+  pub ampersand : Spelled (codes "&amp;") s at → specialAt s at ≡ whole (record { end = at + 5; code = 38 })
+  pub apostrophe : Spelled (codes "&apos;") s at → specialAt s at ≡ whole (record { end = at + 6; code = 39 })
+  pub quotation : Spelled (codes "&quot;") s at → specialAt s at ≡ whole (record { end = at + 6; code = 34 })
+  pub decimal : (n : ℕ) (word : List ℕ) → Digits 10 n word → legal n ≡ true → Spelled (codes "&#" ++ (word ++ codes ";")) s at
+      → specialAt s at ≡ whole (record { end = at + (3 + length word); code = n })
+  pub hexadecimal : (n : ℕ) (word : List ℕ) → Digits 16 n word → legal n ≡ true → Spelled (codes "&#x" ++ (word ++ codes ";")) s at
+      → specialAt s at ≡ whole (record { end = at + (4 + length word); code = n })
+
+abbrev pub ReferencesMean : Type 0
+ReferencesMean = (s : List ℕ) (at : ℕ) → References s at
+
+-- A character of more than one byte is none of ASCII, so it is part of no number and of no URI.
+abbrev pub OthersBeyondAscii : Type 0
+OthersBeyondAscii = (s : List ℕ) (at : ℕ) (c : Character) → has (is 38) s at ≡ false → specialAt s at ≡ whole c → 128 ≤ c .code
+
+-- ---- numbers
 
 -- a number in decimal without leading zeros
 pub data Decimal : ℕ → List ℕ → Type 0 where

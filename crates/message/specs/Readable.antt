@@ -12,7 +12,7 @@ use Rattle.message.specs.Reading.Reading.{whole}
 use Rattle.message.specs.Names.{Named, nameAt}
 use Rattle.message.specs.Words.{codes}
 use Rattle.message.specs.Limits.{Limits}
-use Rattle.message.specs.Elements.{Element, Quoted, quotedAt, documentAt}
+use Rattle.message.specs.Elements.{part, Element, Quoted, quotedAt, documentAt}
 
 abbrev pub Readable : List ℕ → Type 0
 Readable s = (l : Limits) × (root : Element) × (documentAt classOf s l 0 ≡ whole root)
@@ -27,6 +27,10 @@ aComment = codes "<!-- -->"
 -- markup may begin behind these bytes: a whole comment may stand there
 abbrev pub MarkupMayBegin : List ℕ → Type 0
 MarkupMayBegin w = Continues (w ++ aComment)
+
+-- the word stands at the place
+abbrev pub Spelled : List ℕ → List ℕ → ℕ → Type 0
+Spelled w s p = part s p (p + length w) ≡ w
 
 -- ---- open elements
 

@@ -1,19 +1,25 @@
 -- Promise 5, the seven: 13 exactly for what is none of them, the values that each needs, and where they stand. (proofs/Seven) Assumes nothing.
 use Prim.Native.Nat.{ℕ, _+_, _-_, _≤_, _<_}
 use mathlib.Core.Path.{_≡_}
-use mathlib.Core.Bool.{Bool, true, false}
+use mathlib.Core.Bool.{true, false}
 use mathlib.Core.List.{List}
 use lib.ListN.{length}
 use Rattle.message.specs.Class.{classOf}
-use Rattle.message.specs.Reading.{isQuote, byteAt, blanks}
+use Rattle.message.specs.Reading.{isQuote, byteAt, blanks, equalsAt}
 use Rattle.message.specs.Reading.Reading.{whole, refused}
 use Rattle.message.specs.Limits.{Limits}
 use Rattle.message.specs.Elements.{part, Tag, Elements, Element, Quoted, documentAt}
 use Rattle.message.specs.Elements.Elements.{none, more}
-use Rattle.message.specs.Messages.{noNumber, noStatus, noType, message, messageOf}
-use Rattle.message.specs.Readable.{AttributeStands}
+use Rattle.message.specs.Messages.{numberValue, statusValue, typeAdvice, messageOf}
+use Rattle.message.specs.Messages.Found.{found}
+use Rattle.message.specs.Names.{Named}
+use Rattle.message.specs.Readable.{NameStands, AttributeStands}
 use Rattle.message.specs.Words as words
+use Rattle.message.specs.Words.{codes}
 use Rattle.message.specs.declared.Kind.the-variants as kinds
+use Rattle.message.specs.declared.Number.the-variants.{Nothing}
+use Rattle.message.specs.declared.Status.the-variants as statuses
+use Rattle.message.specs.declared.Advice.the-variants as advices
 use Rattle.message.specs.declared.NumberValue.{NumberValue}
 use Rattle.message.specs.declared.StatusValue.{StatusValue}
 use Rattle.message.specs.declared.TypeValue.{TypeValue}
@@ -39,44 +45,94 @@ module _ (s : List ℕ) where
     this : {tag : Tag} {inner others : Elements} → Called w tag → First w (more tag inner others) (record { tag = tag; inside = inner })
     later : {tag : Tag} {inner others : Elements} {e : Element} → (Called w tag → ⊥) → First w others e → First w (more tag inner others) e
 
-  -- whether an attribute is there, its place and its length
-  pub data Shows (w : List ℕ) (tag : Tag) : Bool → ℕ → ℕ → Type 0 where
-    missing : ((v : Quoted) → HasAttribute w tag v → ⊥) → Shows w tag false 0 0
-    there : (v : Quoted) → HasAttribute w tag v → Shows w tag true (v .from) (v .to - v .from)
-
-  abbrev pub ShowsNumber : List ℕ → Tag → NumberValue → Type 0
-  ShowsNumber w tag v = Shows w tag (v .there) (v .place) (v .length)
-
   -- the only child element, which has this name
   abbrev pub OnlyChild : List ℕ → Element → Element → Type 0
   OnlyChild w root child = (root .inside ≡ more (child .tag) (child .inside) none) × Called w (child .tag)
 
+  -- ---- what is shown of a value: whether it is there, its place and length in the message, and what it means (promise 6)
+
+  pub record NumberThere (w : List ℕ) (tag : Tag) (v : NumberValue) : Type 0 where
+    pub value : Quoted
+    pub has : HasAttribute w tag value
+    pub there : v .there ≡ true
+    pub place : v .place ≡ value .from
+    pub bytes : v .length ≡ value .to - value .from
+    pub means : v .number ≡ numberValue classOf s (found (value .from) (value .to)) .number
+
+  pub record NoNumber (v : NumberValue) : Type 0 where
+    pub there : v .there ≡ false
+    pub place : v .place ≡ 0
+    pub bytes : v .length ≡ 0
+    pub means : v .number ≡ Nothing
+
+  -- there if the attribute is
+  pub data PerhapsNumber (w : List ℕ) (tag : Tag) (v : NumberValue) : Type 0 where
+    present : NumberThere w tag v → PerhapsNumber w tag v
+    missing : ((q : Quoted) → HasAttribute w tag q → ⊥) → NoNumber v → PerhapsNumber w tag v
+
+  pub record StatusThere (w : List ℕ) (tag : Tag) (v : StatusValue) : Type 0 where
+    pub value : Quoted
+    pub has : HasAttribute w tag value
+    pub there : v .there ≡ true
+    pub place : v .place ≡ value .from
+    pub bytes : v .length ≡ value .to - value .from
+    pub means : v .status ≡ statusValue classOf s (found (value .from) (value .to)) .status
+
+  pub record NoStatus (v : StatusValue) : Type 0 where
+    pub there : v .there ≡ false
+    pub place : v .place ≡ 0
+    pub bytes : v .length ≡ 0
+    pub means : v .status ≡ statuses.Other
+
+  pub record TypeThere (type : Element) (v : TypeValue) : Type 0 where
+    pub there : v .there ≡ true
+    pub place : v .place ≡ type .tag .from
+    pub bytes : v .length ≡ type .tag .to - type .tag .from
+    pub means : v .advice ≡ typeAdvice classOf s (type .inside) (type .tag .from) (type .tag .to)
+
+  pub record NoType (v : TypeValue) : Type 0 where
+    pub there : v .there ≡ false
+    pub place : v .place ≡ 0
+    pub bytes : v .length ≡ 0
+    pub means : v .advice ≡ advices.Other
+
   -- ---- the seven, each with what it needs and holds: nothing else is there
 
-  pub data OneOfSeven (root : Element) : Message → Type 0 where
-    open-request : Called words.sessionOpenRequest (root .tag) → OneOfSeven root (message kinds.SessionOpenRequest noStatus noNumber noNumber noNumber noType)
+  pub data OneOfSeven (root : Element) (m : Message) : Type 0 where
+    open-request :
+        m .kind ≡ kinds.SessionOpenRequest → Called words.sessionOpenRequest (root .tag)
+        → NoStatus (m .status) → NoNumber (m .id) → NoNumber (m .«in_response_to») → NoNumber (m .«in_relation_to») → NoType (m .«advisory_type»)
+        → OneOfSeven root m
     open-response :
-        (v : StatusValue) → Called words.sessionOpenResponse (root .tag) → v .there ≡ true → Shows words.status (root .tag) (v .there) (v .place) (v .length)
-        → OneOfSeven root (message kinds.SessionOpenResponse v noNumber noNumber noNumber noType)
+        m .kind ≡ kinds.SessionOpenResponse → Called words.sessionOpenResponse (root .tag)
+        → StatusThere words.status (root .tag) (m .status)
+        → NoNumber (m .id) → NoNumber (m .«in_response_to») → NoNumber (m .«in_relation_to») → NoType (m .«advisory_type»)
+        → OneOfSeven root m
     session-ok :
-        (v : NumberValue) → Called words.sessionOk (root .tag) → v .there ≡ true → ShowsNumber words.identity (root .tag) v
-        → OneOfSeven root (message kinds.SessionOk noStatus v noNumber noNumber noType)
+        m .kind ≡ kinds.SessionOk → Called words.sessionOk (root .tag)
+        → NumberThere words.identity (root .tag) (m .id)
+        → NoStatus (m .status) → NoNumber (m .«in_response_to») → NoNumber (m .«in_relation_to») → NoType (m .«advisory_type»)
+        → OneOfSeven root m
     ok :
-        (v : NumberValue) → Called words.ok (root .tag) → v .there ≡ true → ShowsNumber words.inResponseTo (root .tag) v
-        → OneOfSeven root (message kinds.Ok noStatus noNumber v noNumber noType)
+        m .kind ≡ kinds.Ok → Called words.ok (root .tag)
+        → NumberThere words.inResponseTo (root .tag) (m .«in_response_to»)
+        → NoStatus (m .status) → NoNumber (m .id) → NoNumber (m .«in_relation_to») → NoType (m .«advisory_type»)
+        → OneOfSeven root m
     advisory :
-        (v : NumberValue) (t : TypeValue) (child type : Element) → Called words.advisory (root .tag) → OnlyChild words.advisory root child
-        → ShowsNumber words.inRelationTo (child .tag) v → First words.advisoryType (child .inside) type
-        → t .there ≡ true → t .place ≡ type .tag .from → t .length ≡ type .tag .to - type .tag .from
-        → OneOfSeven root (message kinds.Advisory noStatus noNumber noNumber v t)
+        (child type : Element) → m .kind ≡ kinds.Advisory → Called words.advisory (root .tag) → OnlyChild words.advisory root child
+        → PerhapsNumber words.inRelationTo (child .tag) (m .«in_relation_to») → First words.advisoryType (child .inside) type → TypeThere type (m .«advisory_type»)
+        → NoStatus (m .status) → NoNumber (m .id) → NoNumber (m .«in_response_to»)
+        → OneOfSeven root m
     request :
-        (v : NumberValue) (child : Element) → Called words.request (root .tag) → OnlyChild words.queryRequest root child
-        → v .there ≡ true → ShowsNumber words.identity (child .tag) v
-        → OneOfSeven root (message kinds.Request noStatus v noNumber noNumber noType)
+        (child : Element) → m .kind ≡ kinds.Request → Called words.request (root .tag) → OnlyChild words.queryRequest root child
+        → NumberThere words.identity (child .tag) (m .id)
+        → NoStatus (m .status) → NoNumber (m .«in_response_to») → NoNumber (m .«in_relation_to») → NoType (m .«advisory_type»)
+        → OneOfSeven root m
     response :
-        (v : NumberValue) (child : Element) → Called words.response (root .tag) → OnlyChild words.queryResponse root child
-        → ShowsNumber words.inResponseTo (child .tag) v
-        → OneOfSeven root (message kinds.Response noStatus noNumber v noNumber noType)
+        (child : Element) → m .kind ≡ kinds.Response → Called words.response (root .tag) → OnlyChild words.queryResponse root child
+        → PerhapsNumber words.inResponseTo (child .tag) (m .«in_response_to»)
+        → NoStatus (m .status) → NoNumber (m .id) → NoNumber (m .«in_relation_to») → NoType (m .«advisory_type»)
+        → OneOfSeven root m
 
 -- A message that is read is one of the seven, with its needed values.
 abbrev pub ReadIsOne : Type 0
@@ -107,9 +163,14 @@ pub record Quotes (s : List ℕ) (from to : ℕ) : Type 0 where
   pub closed : byteAt s to ≡ byteAt s (from - 1)
   pub inside : (i : ℕ) → from ≤ i → i < to → byteAt s i ≡ byteAt s (from - 1) → ⊥
 
--- An attribute's place and length delimit its value.
+-- An attribute's place and length delimit its value, behind its name and an equals sign.
+pub record Delimits (s : List ℕ) {at to : ℕ} (a : AttributeStands s at to) : Type 0 where
+  pub quotes : Quotes s (a .value .from) (a .value .to)
+  pub equals : equalsAt classOf s (a .name .end) ≡ whole (a .value .from - 1)
+  pub last : to ≡ a .value .to + 1
+
 abbrev pub AttributesDelimited : Type 0
-AttributesDelimited = (s : List ℕ) (w : List ℕ) (tag : Tag) (v : Quoted) → HasAttribute s w tag v → Quotes s (v .from) (v .to)
+AttributesDelimited = (s : List ℕ) (at to : ℕ) (a : AttributeStands s at to) → Delimits s a
 
 -- from the `>` of the start tag to the `</` of an end tag with the same name, or an empty-element tag, with 0 and 0
 pub data Between (s : List ℕ) (tag : Tag) : Type 0 where
@@ -124,3 +185,31 @@ abbrev pub TypeDelimited : Type 0
 TypeDelimited =
     (s : List ℕ) (l : Limits) (root child type : Element) → documentAt classOf s l 0 ≡ whole root
     → OnlyChild s words.advisory root child → First s words.advisoryType (child .inside) type → Between s (type .tag)
+
+-- ---- names
+
+-- the part of a name that elements are called by: behind its one colon, or all of it
+pub data Local (s : List ℕ) (at : ℕ) (name : Named) : Type 0 where
+  undivided : name .local ≡ at → ((i : ℕ) → at ≤ i → i < name .end → byteAt s i ≡ 58 → ⊥) → Local s at name
+  divided : at < name .local → name .local < name .end → byteAt s (name .local - 1) ≡ 58 → ((i : ℕ) → at ≤ i → i < name .end → byteAt s i ≡ 58 → i ≡ name .local - 1) → Local s at name
+
+abbrev pub LocalNames : Type 0
+LocalNames = (s : List ℕ) (at : ℕ) (name : Named) → NameStands s at name → Local s at name
+
+-- The names that document 01 and Table 5 of 000 give.
+abbrev pub NamesAre : Type 0
+NamesAre =
+    (words.sessionOpenRequest ≡ codes "SessionOpenRequest")
+    × (words.sessionOpenResponse ≡ codes "SessionOpenResponse")
+    × (words.sessionOk ≡ codes "SessionOk")
+    × (words.ok ≡ codes "Ok")
+    × (words.advisory ≡ codes "Advisory")
+    × (words.request ≡ codes "Request")
+    × (words.response ≡ codes "Response")
+    × (words.queryRequest ≡ codes "QueryRequest")
+    × (words.queryResponse ≡ codes "QueryResponse")
+    × (words.advisoryType ≡ codes "AdvisoryType")
+    × (words.status ≡ codes "status")
+    × (words.identity ≡ codes "ID")
+    × (words.inResponseTo ≡ codes "inResponseTo")
+    × (words.inRelationTo ≡ codes "inRelationTo")
