@@ -1,7 +1,8 @@
 #!/usr/bin/env python3
 """Checks what the documents cite: every link leads to a file, and a link whose text is a name leads to a file that has the name.
 
-Also that docs/DEMANDS.md leaves nothing out: each must-fail edit and each statement of a crate's specs/Promises.antt is cited there.
+Also that docs/DEMANDS.md leaves nothing out: each must-fail edit is cited there, and each statement of a crate's specs/Promises.antt and of the
+files of specs/ whose first line says which promise they are. And that each statement is proved: a law of proofs/ has it as its type.
 The last line is 'N passed, M failed'; the exit status is 0 only if nothing failed.
 """
 import os
@@ -50,9 +51,23 @@ def faults_of_omission():
             name = label.split("/")[-1]
             cited = "[`%s`](../%s)" % (name, file) in demands
             yield "docs/DEMANDS.md", [] if cited else ["does not cite %s of %s" % (name, file)]
-    for promises in files("crates", "*", "specs", "Promises.antt"):
+    for promises in files_of_promises():
         for statement in STATEMENT.findall(read(promises)):
             yield "docs/DEMANDS.md", [] if "`%s`" % statement in demands else ["does not cite " + statement]
 
 
-sys.exit(report([*faults_of_links(), *faults_of_omission()]))
+def files_of_promises():
+    for path in files("crates", "*", "specs", "*.antt"):
+        if os.path.basename(path) == "Promises.antt" or read(path).startswith("-- Promise "):
+            yield path
+
+
+def faults_of_proofs():
+    for promises in files_of_promises():
+        laws = "".join(read(path) for path in files(os.path.dirname(os.path.dirname(promises)), "proofs", "**", "*.antt"))
+        for statement in STATEMENT.findall(read(promises)):
+            proved = re.search(r"^pub [\w-]+ : %s$" % statement, laws, re.MULTILINE)
+            yield os.path.relpath(promises, TOP), [] if proved else [statement + " is not proved"]
+
+
+sys.exit(report([*faults_of_links(), *faults_of_omission(), *faults_of_proofs()]))
