@@ -1,6 +1,6 @@
 -- Where values stand (specs/Seven): an attribute's between its quotation marks, an element's between its tags. Assumes nothing.
 use Prim.Native.Nat.{ℕ, _+_, _-_, _≤_, _<_}
-use mathlib.Core.Path.{_≡_, refl, _∙_, ap, subst}
+use mathlib.Core.Path.{_≡_, refl, sym, _∙_, ap, subst}
 use mathlib.Core.Bool.{true}
 use mathlib.Core.List.{List}
 use native.Mathlib.Omega.{arith}
@@ -14,9 +14,8 @@ use Rattle.message.specs.Text.{valueAt}
 use Rattle.message.specs.Limits.{Limits}
 use Rattle.message.specs.Words as words
 use Rattle.message.specs.Elements.{Elements, Element, Start, Content, Quoted, startEndAt, quotedAt, startAt, endTagAt, contentAt, restAt, elementAt}
-use Rattle.message.specs.Seven.{Carries, First, Quotes, Between, AttributesDelimited, TypeDelimited}
-use Rattle.message.specs.Seven.Carries.{this, later}
-use Rattle.message.specs.Seven.First.{this as this-first, later as later-first}
+use Rattle.message.specs.Seven.{First, Quotes, Between, AttributesDelimited, TypeDelimited}
+use Rattle.message.specs.Seven.First.{this, later}
 use Rattle.message.specs.Seven.Between.{tags, empty}
 use Rattle.message.proofs.Laws.{has-lt, has-byte, one-has}
 use Rattle.message.proofs.Runs.{byte-is}
@@ -44,23 +43,22 @@ module _ (s : List ℕ) where
         inside = x .0;
       }
 
-  quoted-quotes : (at : ℕ) (v : Quoted) → quotedAt classOf s at ≡ whole v → Quotes s (v .from) (v .to)
+  quoted-stands : (at : ℕ) (v : Quoted) → quotedAt classOf s at ≡ whole v → (equalsAt classOf s at ≡ whole (v .from - 1)) × Quotes s (v .from) (v .to)
   unfolding quotedAt openedAt
-  quoted-quotes at v q =
+  quoted-stands at v q =
       let x = then-whole _ (openedAt classOf s at) v q in
       let y = then-whole _ (valueAt classOf (length s) (byteAt s (x .0 - 1)) s (x .0)) v (x .2) in
       let mark = then-whole (one isQuote s) (equalsAt classOf s at) (x .0) (x .1) in
       let o = one-has isQuote s (mark .0) (x .0) (mark .2) in
       let back : mark .0 ≡ x .0 - 1 = omega (arith, o .1) in
-      subst (λ (u : Quoted). Quotes s (u .from) (u .to)) (whole-same (y .2))
-      (value-quotes (x .0) (y .0) (omega (arith, o .1)) (subst (λ (i : ℕ). isQuote (byteAt s i) ≡ true) back (has-byte isQuote s (mark .0) (o .0))) (y .1))
-
-  carried-quotes : (w : List ℕ) (at : ℕ) (v : Quoted) → Carries s w at v → Quotes s (v .from) (v .to)
-  carried-quotes w at _ (this a same) = quoted-quotes (a .name .end) (a .value) (a .valued)
-  carried-quotes w at v (later {to = to} a other c) = carried-quotes w to v c
+      let quoted : isQuote (byteAt s (x .0 - 1)) ≡ true = subst (λ (i : ℕ). isQuote (byteAt s i) ≡ true) back (has-byte isQuote s (mark .0) (o .0)) in
+      subst (λ (u : Quoted). (equalsAt classOf s at ≡ whole (u .from - 1)) × Quotes s (u .from) (u .to)) (whole-same (y .2))
+      (mark .1 ∙ ap whole back, value-quotes (x .0) (y .0) (omega (arith, o .1)) quoted (y .1))
 
 pub attributes-delimited : AttributesDelimited
-attributes-delimited s w tag v c = carried-quotes s w (tag .name .end) v c
+attributes-delimited s at to a =
+    let x = quoted-stands s (a .name .end) (a .value) (a .valued) in
+    record { quotes = x .1; equals = x .0; last = sym (a .ends) }
 
 -- ---- elements
 
@@ -114,8 +112,8 @@ module _ (s : List ℕ) where
         rest-between (elementAt classOf s l (r .0)) (λ at e q. element-on classOf s l (r .0) at e q .0) (r .1) (x .0) (x .1) e (x .2)
 
     first-read : (w : List ℕ) (es : Elements) (e : Element) → EachRead classOf s l es → First s w es e → WasRead classOf s l e
-    first-read w _ _ r (this-first c) = r .0
-    first-read w _ e r (later-first {others = others} other f) = first-read w others e (r .1) f
+    first-read w _ _ r (this c) = r .0
+    first-read w _ e r (later {others = others} other f) = first-read w others e (r .1) f
 
 pub type-delimited : TypeDelimited
 type-delimited s l root child type q only first =

@@ -4,11 +4,8 @@
 -- `Kept` says what raised limits change, and `Raising` proves specs/Raised. `Meanings` proves promise 6, with `Letters` about texts and `Decimals` about numbers in them.
 -- `Sound` is what holds in every state of the machine of `Automaton`, `Inverse` what a comment and end tags behind it say of a state, and `Alive` that the machine went through all
 -- that is before it. `TagInverse` and `PartInverse` lead back from what specs/Readable says by readers to the state of the machine.
--- `Seven` and `Delimited` prove the promises of specs/Seven: `Numbers` tells the numbers of refusal, `Within` the elements of a message, `Carried` what their start tags
--- carry, `Unquoted` what values hold, and `Repeated` that end tags repeat names.
--- that is before it.
--- `Seven` and `Delimited` prove the promises of specs/Seven: `Within` tells the elements of a message, `Carried` what their start tags carry, `Unquoted` what values hold, and
--- `Repeated` that end tags repeat names.
+-- `Seven`, `Delimited` and `NamesStand` prove the promises of specs/Seven: `Numbers` tells the numbers of refusal, `Within` the elements of a message, `Carried` what their start
+-- tags carry, `Shown` what is shown of values, `Unquoted` what values hold, and `Repeated` that end tags repeat names.
 pub mod Laws
 pub mod Digits
 pub mod Runs
@@ -56,9 +53,11 @@ pub mod Openings
 pub mod Numbers
 pub mod Carried
 pub mod Within
+pub mod Shown
 pub mod Seven
 pub mod Unquoted
 pub mod Delimited
 pub mod Repeated
+pub mod NamesStand
 pub mod TagInverse
 pub mod PartInverse

@@ -14,12 +14,12 @@ use Rattle.message.specs.Reading.Reading.{whole, refused}
 use Rattle.message.specs.Limits.{Limits}
 use Rattle.message.specs.Elements.{part, Tag, Elements, Element, Quoted, documentAt}
 use Rattle.message.specs.Elements.Elements.{none, more}
-use Rattle.message.specs.Messages.{noMessage, kindOf, Found, needed, foundIn, called, onlyChild, firstCalled, numberValue, statusValue, typeValue, attributeCalled, attributeOf, messageOfKind, messageAt, messageOf}
+use Rattle.message.specs.Messages.{noMessage, kindOf, Found, needed, foundIn, called, onlyChild, firstCalled, numberValue, attributeCalled, attributeOf, messageOfKind, messageAt, messageOf}
 use Rattle.message.specs.Messages.Found.{missing, found}
 use Rattle.message.specs.Words as words
-use Rattle.message.specs.Seven.{Called, HasAttribute, First, Shows, ShowsNumber, OnlyChild, OneOfSeven, ReadIsOne, ThirteenIsNone, NoneIsThirteen}
+use Rattle.message.specs.Seven.{Called, HasAttribute, First, OnlyChild, PerhapsNumber, OneOfSeven, ReadIsOne, ThirteenIsNone, NoneIsThirteen}
 use Rattle.message.specs.Seven.First.{this, later}
-use Rattle.message.specs.Seven.Shows.{missing as absent, there}
+use Rattle.message.specs.Seven.PerhapsNumber.{present, missing as absent}
 use Rattle.message.specs.Seven.OneOfSeven.{open-request, open-response, session-ok, ok, advisory, request, response}
 use Rattle.message.specs.declared.Kind.{Kind}
 use Rattle.message.specs.declared.Kind.the-variants as kinds
@@ -31,6 +31,7 @@ use Rattle.message.proofs.ByForm.{refuses-number}
 use Rattle.message.proofs.Numbers.{Holds, told-document}
 use Rattle.message.proofs.Within.{WasRead, EachRead, root-read, inside-read, attributes-read}
 use Rattle.message.proofs.Carried.{called-carries, carries-called}
+use Rattle.message.proofs.Shown.{no-number, no-status, no-type, type-there, number-there, status-there}
 
 reads-then : {A B : Type 0} {a : Reading A} {x : A} (next : A → Reading B) → a ≡ whole x → isWhole (next x) ≡ true → isWhole (a >>= next) ≡ true
 reads-then next q h = rw q h
@@ -140,12 +141,12 @@ module _ (s : List ℕ) (l : Limits) where
     pub there-value : (v : Quoted) → HasAttribute s w tag v → value ≡ whole v
     there-value v c = carries-called s l w (length s) [] (tag .name .end) (a .0) v (a .1) c
 
-    shows-number : ShowsNumber s w tag (numberValue classOf s (attributeOf classOf l s w tag))
-    shows-number = go value refl
+    perhaps-number : PerhapsNumber s w tag (numberValue classOf s (attributeOf classOf l s w tag))
+    perhaps-number = go value refl
       where
-        go : (r : Reading Quoted) → value ≡ r → ShowsNumber s w tag (numberValue classOf s (foundIn r))
-        go (whole v) q = there v (value-there v q)
-        go (refused n p) q = absent (λ v c. unread (sym q ∙ there-value v c))
+        go : (r : Reading Quoted) → value ≡ r → PerhapsNumber s w tag (numberValue classOf s (foundIn r))
+        go (whole v) q = present (number-there s w tag v (value-there v q))
+        go (refused n p) q = absent (λ v c. unread (sym q ∙ there-value v c)) (no-number s)
 
     needed-there : {m : Message} (next : Found → Reading Message) → (needed (attributeOf classOf l s w tag) >>= next) ≡ whole m
         → (v : Quoted) × HasAttribute s w tag v × (next (found (v .from) (v .to)) ≡ whole m)
@@ -155,9 +156,8 @@ module _ (s : List ℕ) (l : Limits) where
         go (whole v) q h = (v, value-there v q, h)
         go (refused n p) q h = unread h
 
-    there-needed : {t : Bool} {p n : ℕ} → t ≡ true → Shows s w tag t p n → (f : Found) × (needed (attributeOf classOf l s w tag) ≡ whole f)
-    there-needed is (absent f) = absurd (true-false is refl)
-    there-needed is (there v c) = (found (v .from) (v .to), ap (λ (r : Reading Quoted). needed (foundIn r)) (there-value v c))
+    there-needed : (v : Quoted) → HasAttribute s w tag v → needed (attributeOf classOf l s w tag) ≡ whole (found (v .from) (v .to))
+    there-needed v c = ap (λ (r : Reading Quoted). needed (foundIn r)) (there-value v c)
 
   -- ---- the seven
 
@@ -195,46 +195,50 @@ module _ (s : List ℕ) (l : Limits) where
           go (x .0) (kind-word _ (x .0) (x .1)) (x .2)
         where
           go : (k : Kind) → Called s (kindWord k) (root .tag) → messageOfKind classOf l s root k ≡ whole m → OneOfSeven s root m
-          go kinds.SessionOpenRequest c h = subst (OneOfSeven s root) (whole-same h) (open-request c)
+          go kinds.SessionOpenRequest c h =
+              subst (OneOfSeven s root) (whole-same h) (open-request refl c (no-status s) (no-number s) (no-number s) (no-number s) (no-type s))
           go kinds.SessionOpenResponse c h =
               let x = needed-there words.status (root .tag) own _ h in
-              subst (OneOfSeven s root) (whole-same (x .2)) (open-response (statusValue classOf s (found (x .0 .from) (x .0 .to))) c refl (there (x .0) (x .1)))
+              subst (OneOfSeven s root) (whole-same (x .2))
+              (open-response refl c (status-there s words.status (root .tag) (x .0) (x .1)) (no-number s) (no-number s) (no-number s) (no-type s))
           go kinds.SessionOk c h =
               let x = needed-there words.identity (root .tag) own _ h in
-              subst (OneOfSeven s root) (whole-same (x .2)) (session-ok (numberValue classOf s (found (x .0 .from) (x .0 .to))) c refl (there (x .0) (x .1)))
+              subst (OneOfSeven s root) (whole-same (x .2))
+              (session-ok refl c (number-there s words.identity (root .tag) (x .0) (x .1)) (no-status s) (no-number s) (no-number s) (no-type s))
           go kinds.Ok c h =
               let x = needed-there words.inResponseTo (root .tag) own _ h in
-              subst (OneOfSeven s root) (whole-same (x .2)) (ok (numberValue classOf s (found (x .0 .from) (x .0 .to))) c refl (there (x .0) (x .1)))
+              subst (OneOfSeven s root) (whole-same (x .2))
+              (ok refl c (number-there s words.inResponseTo (root .tag) (x .0) (x .1)) (no-status s) (no-number s) (no-number s) (no-type s))
           go kinds.Advisory c h =
               let e = then-whole _ (onlyChild s words.advisory (root .inside)) m h in
               let t = then-whole _ (firstCalled s words.advisoryType (e .0 .inside)) m (e .2) in
               let only = only-child s words.advisory (root .inside) (e .0) (e .1) in
               subst (OneOfSeven s root) (whole-same (t .2))
-              (advisory (numberValue classOf s (attributeOf classOf l s words.inRelationTo (e .0 .tag))) (typeValue classOf s (t .0)) (e .0) (t .0) c only
-              (shows-number words.inRelationTo (e .0 .tag) (childs words.advisory (e .0) only))
-              (first-called s words.advisoryType (e .0 .inside) (t .0) (t .1)) refl refl refl)
+              (advisory (e .0) (t .0) refl c only (perhaps-number words.inRelationTo (e .0 .tag) (childs words.advisory (e .0) only))
+              (first-called s words.advisoryType (e .0 .inside) (t .0) (t .1)) (type-there s (t .0)) (no-status s) (no-number s) (no-number s))
           go kinds.Request c h =
               let e = then-whole _ (onlyChild s words.queryRequest (root .inside)) m h in
               let only = only-child s words.queryRequest (root .inside) (e .0) (e .1) in
               let x = needed-there words.identity (e .0 .tag) (childs words.queryRequest (e .0) only) _ (e .2) in
-              subst (OneOfSeven s root) (whole-same (x .2)) (request (numberValue classOf s (found (x .0 .from) (x .0 .to))) (e .0) c only refl (there (x .0) (x .1)))
+              subst (OneOfSeven s root) (whole-same (x .2))
+              (request (e .0) refl c only (number-there s words.identity (e .0 .tag) (x .0) (x .1)) (no-status s) (no-number s) (no-number s) (no-type s))
           go kinds.Response c h =
               let e = then-whole _ (onlyChild s words.queryResponse (root .inside)) m h in
               let only = only-child s words.queryResponse (root .inside) (e .0) (e .1) in
               subst (OneOfSeven s root) (whole-same (e .2))
-              (response (numberValue classOf s (attributeOf classOf l s words.inResponseTo (e .0 .tag))) (e .0) c only
-              (shows-number words.inResponseTo (e .0 .tag) (childs words.queryResponse (e .0) only)))
+              (response (e .0) refl c only (perhaps-number words.inResponseTo (e .0 .tag) (childs words.queryResponse (e .0) only)) (no-status s) (no-number s) (no-number s) (no-type s))
 
       one-rest : (m : Message) → OneOfSeven s root m → isWhole rest ≡ true
-      one-rest _ (open-request c) = begun kinds.SessionOpenRequest c refl
-      one-rest _ (open-response v c t h) = begun kinds.SessionOpenResponse c (reads-then _ (there-needed words.status (root .tag) own t h .1) refl)
-      one-rest _ (session-ok v c t h) = begun kinds.SessionOk c (reads-then _ (there-needed words.identity (root .tag) own t h .1) refl)
-      one-rest _ (ok v c t h) = begun kinds.Ok c (reads-then _ (there-needed words.inResponseTo (root .tag) own t h .1) refl)
-      one-rest _ (advisory v t e type c only h first t-is place-is length-is) =
+      one-rest m (open-request k c _ _ _ _ _) = begun kinds.SessionOpenRequest c refl
+      one-rest m (open-response k c v _ _ _ _) = begun kinds.SessionOpenResponse c (reads-then _ (there-needed words.status (root .tag) own (v .value) (v .has)) refl)
+      one-rest m (session-ok k c v _ _ _ _) = begun kinds.SessionOk c (reads-then _ (there-needed words.identity (root .tag) own (v .value) (v .has)) refl)
+      one-rest m (ok k c v _ _ _ _) = begun kinds.Ok c (reads-then _ (there-needed words.inResponseTo (root .tag) own (v .value) (v .has)) refl)
+      one-rest m (advisory e type k c only _ first _ _ _ _) =
           begun kinds.Advisory c (reads-then _ (child-only s words.advisory root e only) (reads-then _ (called-first s words.advisoryType (e .inside) type first) refl))
-      one-rest _ (request v e c only t h) =
-          begun kinds.Request c (reads-then _ (child-only s words.queryRequest root e only) (reads-then _ (there-needed words.identity (e .tag) (childs words.queryRequest e only) t h .1) refl))
-      one-rest _ (response v e c only h) = begun kinds.Response c (reads-then _ (child-only s words.queryResponse root e only) refl)
+      one-rest m (request e k c only v _ _ _ _) =
+          let attribute = there-needed words.identity (e .tag) (childs words.queryRequest e only) (v .value) (v .has) in
+          begun kinds.Request c (reads-then _ (child-only s words.queryRequest root e only) (reads-then _ attribute refl))
+      one-rest m (response e k c only _ _ _ _ _) = begun kinds.Response c (reads-then _ (child-only s words.queryResponse root e only) refl)
 
   message-is : (root : Element) → documentAt classOf s l 0 ≡ whole root → messageOf classOf l s ≡ rest root
   unfolding messageAt

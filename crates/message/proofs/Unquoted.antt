@@ -38,7 +38,7 @@ module _ (s : List ℕ) (q : ℕ) where
   free-on test fails from at f h = free-join from at (at + 1) f (λ i a b e. true-false (has-byte test s at h) (ap test (ap (byteAt s) (omega arith) ∙ e) ∙ fails))
 
   -- and as many as do
-  free-run : (test : ℕ → Bool) → test q ≡ false → (n from at : ℕ) → length s ≤ at + n → Free from at → Free from (ends test s at)
+  pub free-run : (test : ℕ → Bool) → test q ≡ false → (n from at : ℕ) → length s ≤ at + n → Free from at → Free from (ends test s at)
   free-run test fails zero from at h f = subst (Free from) (sym (ends-out test s at (omega arith))) f
   free-run test fails (suc n) from at h f = go (has test s at) refl (free-run test fails n from (at + 1) (omega arith))
     where
