@@ -16,10 +16,11 @@ use Rattle.message.specs.Text.{specialAt}
 use Rattle.message.specs.Markup.{bangAt}
 use Rattle.message.specs.Values.{isBreak, lineEnd, letterAt, attributeLetterAt, textLetterAt, attributeMeaning, contentMeaning}
 use Rattle.message.specs.Meanings.{ValueSays, ContentSays}
-use Rattle.message.specs.Meanings.ValueSays.{done, space, byte, special}
-use Rattle.message.specs.Meanings.ContentSays.{done as all-done, comment, line, byte as text-byte, special as text-special}
+use Rattle.message.specs.Meanings.ValueSays.{done, pair, space, byte, special}
+use Rattle.message.specs.Meanings.ContentSays.{done as all-done, comment, pair as line-pair, line, byte as text-byte, special as text-special}
 use Rattle.message.proofs.Laws.{cond-cases, both-second, has-lt}
 use Rattle.message.proofs.Runs.{has-known}
+use Rattle.message.proofs.Breaks.{break-is, pair-is, no-break-is, is-no-break, break-cases, return-cases}
 use Rattle.message.proofs.Progress.{PastCharacter, past-whole, past-special}
 use Rattle.message.proofs.MarkupLoop.{bang-on}
 use Rattle.message.proofs.Trees.{whole-same, unread}
@@ -79,13 +80,13 @@ module _ (s : List ℕ) where
         go true h e = subst P (whole-same e) (one-byte h)
         go false h e = other c h e
 
-  -- in a value: a break is a space
+  -- in a value: a break, or CR LF, is a space
   abbrev asSpace : ℕ → Character
-  asSpace at = record { end = lineEnd s at; code = 32 }
+  asSpace e = record { end = e; code = 32 }
 
-  value-break : (at : ℕ) → has isBreak s at ≡ true → attributeLetterAt classOf s at ≡ whole (asSpace at)
+  value-break : (at e : ℕ) → (has isBreak s at ≡ true) × (lineEnd s at ≡ e) → attributeLetterAt classOf s at ≡ whole (asSpace e)
   unfolding attributeLetterAt
-  value-break at b = rw b
+  value-break at e b = rw (b .0, b .1)
 
   value-plain : (at : ℕ) → has isBreak s at ≡ false → attributeLetterAt classOf s at ≡ letterAt classOf s at
   unfolding attributeLetterAt
@@ -93,11 +94,11 @@ module _ (s : List ℕ) where
 
   -- between tags: a carriage return is a line feed
   abbrev asLine : ℕ → Character
-  asLine at = record { end = lineEnd s at; code = 10 }
+  asLine e = record { end = e; code = 10 }
 
-  text-break : (at : ℕ) → has (is 13) s at ≡ true → textLetterAt classOf s at ≡ whole (asLine at)
+  text-break : (at e : ℕ) → has (is 13) s at ≡ true → lineEnd s at ≡ e → textLetterAt classOf s at ≡ whole (asLine e)
   unfolding textLetterAt
-  text-break at b = rw b
+  text-break at e b ends = rw (ends, b)
 
   text-plain : (at : ℕ) → has (is 13) s at ≡ false → textLetterAt classOf s at ≡ letterAt classOf s at
   unfolding textLetterAt
@@ -122,8 +123,12 @@ module _ (s : List ℕ) where
         Said d = ValueSays s to (d .end) text → ValueSays s to at (d .code ∷ text)
 
         go : (t : Bool) → has isBreak s at ≡ t → Said c
-        go true h = subst Said (whole-same (sym (value-break at h) ∙ q)) (space within h)
-        go false h = letter-cases Said at (byte within h) (λ d. special d within h) c (sym (value-plain at h) ∙ q)
+        go true h =
+            subst Said (whole-same (sym (value-break at (lineEnd s at) (h, refl)) ∙ q))
+            (break-cases s at (λ e. Said (asSpace e)) (pair within) (space within) h)
+        go false h =
+            let none = is-no-break s at h in
+            letter-cases Said at (byte within none) (λ d. special d within none) c (sym (value-plain at h) ∙ q)
 
     pub value-said : (fuel at : ℕ) (text : List ℕ) → attributeMeaning classOf s fuel to at ≡ whole text → ValueSays s to at text
     unfolding attributeMeaning
@@ -161,11 +166,14 @@ module _ (s : List ℕ) where
 
     pub value-given : {at : ℕ} {text : List ℕ} → ValueSays s to at text → Given valueMeaning at text
     value-given {at} (done out) = value-end at out
-    value-given {at} (space {text = text} within b rest) = value-letter at (asSpace at) text within (value-break at b) (value-given rest)
+    value-given {at} (pair {text = text} within r f rest) =
+        value-letter at (asSpace (at + 2)) text within (value-break at (at + 2) (pair-is s at r f)) (value-given rest)
+    value-given {at} (space {text = text} within b rest) =
+        value-letter at (asSpace (at + 1)) text within (value-break at (at + 1) (break-is s at b)) (value-given rest)
     value-given {at} (byte {text = text} within b t rest) =
-        value-letter at (asByte at) text within (value-plain at b ∙ letter-byte at t) (value-given rest)
+        value-letter at (asByte at) text within (value-plain at (no-break-is s at b) ∙ letter-byte at t) (value-given rest)
     value-given {at} (special {text = text} c within b t q rest) =
-        value-letter at c text within (value-plain at b ∙ letter-special at c t q) (value-given rest)
+        value-letter at c text within (value-plain at (no-break-is s at b) ∙ letter-special at c t q) (value-given rest)
 
     -- ---- content
 
@@ -177,7 +185,9 @@ module _ (s : List ℕ) where
         Said d = ContentSays s to (d .end) text → ContentSays s to at (d .code ∷ text)
 
         go : (t : Bool) → has (is 13) s at ≡ t → Said c
-        go true h = subst Said (whole-same (sym (text-break at h) ∙ q)) (line within h)
+        go true h =
+            subst Said (whole-same (sym (text-break at (lineEnd s at) h refl) ∙ q))
+            (return-cases s at (λ e. Said (asLine e)) (line-pair within) (line within h) h)
         go false h = letter-cases Said at (text-byte within n h) (λ d. text-special d within n h) c (sym (text-plain at h) ∙ q)
 
     pub content-said : (fuel at : ℕ) (text : List ℕ) → contentMeaning classOf s fuel to at ≡ whole text → ContentSays s to at text
@@ -239,7 +249,10 @@ module _ (s : List ℕ) where
     pub content-given : {at : ℕ} {text : List ℕ} → ContentSays s to at text → Given textMeaning at text
     content-given {at} (all-done out) = content-end at out
     content-given {at} {text} (comment {e = e} within h q rest) = content-comment at e text within h q (content-given rest)
-    content-given {at} (line {text = text} within b rest) = content-letter at (asLine at) text within (no-tag at b) (text-break at b) (content-given rest)
+    content-given {at} (line-pair {text = text} within b f rest) =
+        content-letter at (asLine (at + 2)) text within (no-tag at b) (text-break at (at + 2) b (pair-is s at b f .1)) (content-given rest)
+    content-given {at} (line {text = text} within b alone rest) =
+        content-letter at (asLine (at + 1)) text within (no-tag at b) (text-break at (at + 1) b (rw (b, alone))) (content-given rest)
     content-given {at} (text-byte {text = text} within n b t rest) =
         content-letter at (asByte at) text within n (text-plain at b ∙ letter-byte at t) (content-given rest)
     content-given {at} (text-special {text = text} c within n b t q rest) =

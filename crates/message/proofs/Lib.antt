@@ -1,7 +1,8 @@
 -- `Laws` and `Digits` are about single readings, `Runs` about bytes that are known and runs of them, `Parts` about parts of the message; `ClassTable` computes the table.
 -- `Progress`, `MarkupLoop` and `Trees` show that what is read whole ends past where it began, `Loops` what a loop over a reader keeps, and `Facts` that each element is what is
 -- read again at its place. `ByForm` and `Numbers` tell the numbers of refusal, of the readers that take no limits and of those that do.
--- `Kept` says what raised limits change, and `Raising` proves specs/Raised. `Meanings` proves promise 6, with `Letters` about texts and `Decimals` about numbers in them.
+-- `Kept` says what raised limits change, and `Raising` proves specs/Raised. `Meanings` proves promise 6, with `Letters` about texts, `Breaks` about tabs and line ends and `Decimals` about
+-- numbers in them; `References` proves what references are read as, and `BeyondAscii` that a character of more than one byte lies beyond ASCII.
 -- `Sound` is what holds in every state of the machine of `Automaton`, `Inverse` what a comment and end tags behind it say of a state, and `Alive` that the machine went through all
 -- that is before it. `TagInverse` and `PartInverse` lead back from what specs/Readable says by readers to the state of the machine.
 -- `Seven`, `Delimited` and `NamesStand` prove the promises of specs/Seven: `Numbers` tells the numbers of refusal, `Within` the elements of a message, `Carried` what their start
@@ -25,6 +26,7 @@ pub mod GoingAttributes
 pub mod Kept
 pub mod ByForm
 pub mod Raising
+pub mod Breaks
 pub mod Letters
 pub mod Decimals
 pub mod Meanings
@@ -40,6 +42,8 @@ pub mod Accepted
 pub mod ByKind
 pub mod Nine
 pub mod Spelling
+pub mod References
+pub mod BeyondAscii
 pub mod Causes
 pub mod Blocked
 pub mod Earliest
