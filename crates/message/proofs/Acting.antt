@@ -35,12 +35,14 @@ fails-byte test s i inside h = sym (has-in test s i inside) ∙ h
 module _ (l : Limits) (s : List ℕ) where
   -- a state that the message may not end in, and that no byte leads on from
   pub stuck-here : {st : State} {i : ℕ} → At l s st i → mayEnd st ≡ false → (i < length s → step st (byteAt s i) ≡ dead) → Stuck l s 9 i
-  stuck-here {st = st} {i = i} here more dying =
-      (st, here,
-      elim (decLt i (length s)) [
-        | yes inside ↦ dies inside (dying inside)
-        | no out ↦ cut (omega arith) more
-      ])
+  stuck-here {st = st} {i = i} here more dying = (
+    st,
+    here,
+    elim (decLt i (length s)) [
+      | yes inside ↦ dies inside (dying inside)
+      | no out ↦ cut (omega arith) more
+    ],
+  )
 
   -- the machine is in the message or at its end, nothing is due, and it does what f does
   pub record Acts (f : ℕ → Next) (i : ℕ) : Type 0 where

@@ -280,4 +280,4 @@ step (close y w fresh o) x = only (is y x) (closing w (is 58 y) o)
 
 unfoldable pub steps : State → List ℕ → Next
 steps st [] = goes st
-steps st (x ∷ xs) = elim (step st x) [ | dead ↦ dead | goes st′ ↦ steps st′ xs ]
+steps st (x ∷ xs) = elim (step st x) [ dead ↦ dead | goes st′ ↦ steps st′ xs ]

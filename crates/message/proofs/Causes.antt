@@ -104,9 +104,10 @@ module _ (s : List ℕ) where
   cause-goes st p n here (dies within dying) other = absurd (other refl)
   cause-goes st p n here (cut out more) other = absurd (other refl)
   cause-goes st p n here (deep g q tag far levels) other = tag-goes st g p here q tag
-  cause-goes st p n here (crowded m seen o q start many crowd) other =
-      (has-lt (isStart classOf) s p start,
-      goes-continues linkLimits s st p here (has-lt (isStart classOf) s p start) _ (ap (λ (x : State). step x (byteAt s p)) q ∙ in-tag-goes m seen o (byteAt s p) (has-byte (isStart classOf) s p start)))
+  cause-goes st p n here (crowded m seen o q start many crowd) other = (
+    has-lt (isStart classOf) s p start,
+    goes-continues linkLimits s st p here (has-lt (isStart classOf) s p start) _ (ap (λ (x : State). step x (byteAt s p)) q ∙ in-tag-goes m seen o (byteAt s p) (has-byte (isStart classOf) s p start)),
+  )
   cause-goes st p n here (opens g q tag open-there) other = tag-goes st g p here q tag
   cause-goes st p n here (longs due far next q roomy part) other =
       let within : p < length s = has-lt (isName classOf) s p (long-name p 64 (ltb-true 64 (ends (isName classOf) s p - p) far)) in

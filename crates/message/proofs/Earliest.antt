@@ -70,7 +70,7 @@ module _ (s : List ℕ) where
 
   -- the order, from what is not due there
   below : (k r : ℕ) → (k < r → ⊥) → r ≤ k
-  below k r h = elim (decLt k r) [ | yes less ↦ absurd (h less) | no more ↦ omega arith ]
+  below k r h = elim (decLt k r) [ yes less ↦ absurd (h less) | no more ↦ omega arith ]
 
   module _ (r p : ℕ) (most : r ≤ 4) (nine : 0 < r → Due s 9 p → ⊥) (eleven : 1 < r → Due s 11 p → ⊥) (fourteen : 2 < r → Due s 14 p → ⊥) (ten : 3 < r → Due s 10 p → ⊥) where
     ranked : (n q : ℕ) → q ≡ p → Due s n q → r ≤ rank n

@@ -235,14 +235,18 @@ module _ (l : Limits) (s : List ℕ) where
           opens = tagged .stands .opens;
           name = tagged .stands .name;
           named = tagged .stands .named;
-          attributes = (at, tagged .stands .attributes, record {
-            space = fresh .space;
-            name = fresh .name;
-            named = (l .part, fresh .named);
-            value = v;
-            valued = ap (quotedAt classOf s) (fresh .ends-there) ∙ q;
-            ends = refl;
-          });
+          attributes = (
+            at,
+            tagged .stands .attributes,
+            record {
+              space = fresh .space;
+              name = fresh .name;
+              named = (l .part, fresh .named);
+              value = v;
+              valued = ap (quotedAt classOf s) (fresh .ends-there) ∙ q;
+              ends = refl;
+            },
+          );
         };
         few = omega (arith, fresh .room);
       }

@@ -148,11 +148,11 @@ module _ (l : Limits) (s : List ℕ) where
             record {
               state = N .behindColon (part s b (e + 1));
               here = subst (λ (w : List ℕ). At l s (N .behindColon w) (e + 1)) (colon-part e from h)
-              (at-has l s (is 58) e (behind .here) h (N .free false (part s b e) e) (ap (step (N .inPart false (part s b e))) colon ∙ N .splits (part s b e)));
+                  (at-has l s (is 58) e (behind .here) h (N .free false (part s b e) e) (ap (step (N .inPart false (part s b e))) colon ∙ N .splits (part s b e)));
               more = N .colon-more (part s b (e + 1));
               from = omega arith;
               starts = λ st. N .begins (part s b (e + 1)) (byteAt s (e + 1))
-              ∙ rw (has-byte (isStart classOf) s (e + 1) st, part-more s b (e + 1) (omega arith) (has-lt (isStart classOf) s (e + 1) st));
+                  ∙ rw (has-byte (isStart classOf) s (e + 1) st, part-more s b (e + 1) (omega arith) (has-lt (isStart classOf) s (e + 1) st));
               fails = λ inside no-start. N .begins (part s b (e + 1)) (byteAt s (e + 1)) ∙ rw (fails-byte (isStart classOf) s (e + 1) inside no-start);
               looks = λ st. N .looks (part s b (e + 1)) (e + 1) ∙ rw st;
               roomy = N .colon-roomy (part s b (e + 1));

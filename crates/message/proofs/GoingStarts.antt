@@ -133,7 +133,7 @@ module _ (l : Limits) (s : List ℕ) where
       pub tagged-there : (n : Named) → nameAt classOf (l .part) s (i + 1) ≡ whole n → NameRead l s naming (i + 1) n → Tagged l s (part s (i + 1) (n .end)) (names g) [] (n .end)
       tagged-there n q read = record {
         acts = acts-as l s (acts-at l s _ (n .end) (read .here) refl refl) (stepInTag false (part s (i + 1) (n .end)) [] (names g)) (λ within.
-        rw (fails-byte (isName classOf) s (n .end) within (read .ended), ap (λ (t : Bool). t && not (read .inSecond)) (sym (has-in (is 58) s (n .end) within)) ∙ read .undivided));
+            rw (fails-byte (isName classOf) s (n .end) within (read .ended), ap (λ (t : Bool). t && not (read .inSecond)) (sym (has-in (is 58) s (n .end) within)) ∙ read .undivided));
         tag = i;
         marked = (g, place .here);
         stands = record { opens = tagged; name = n; named = (l .part, q); attributes = refl };

@@ -75,5 +75,5 @@ pub nine-once : NineOnce
 nine-once s p p′ one other =
     elim (decLt p p′) [
       | yes h ↦ absurd (nine-before s p p′ one other h)
-      | no h ↦ elim (decLt p′ p) [ | yes k ↦ absurd (nine-before s p′ p other one k) | no k ↦ omega arith ]
+      | no h ↦ elim (decLt p′ p) [ yes k ↦ absurd (nine-before s p′ p other one k) | no k ↦ omega arith ]
     ]
