@@ -21,70 +21,15 @@ use Rattle.message.specs.Seven.{Carries}
 use Rattle.message.specs.Seven.Carries.{this, later}
 use Rattle.message.proofs.Laws.{cond-true, cond-false, has-byte, one-has}
 use Rattle.message.proofs.Trees.{whole-same, unread, fresh-whole}
+use Rattle.message.proofs.Bytes.{has-fails, end-no-start}
 use Rattle.message.proofs.Facts.{then-whole}
-
--- ---- a name is the same under any limit that it is read with
-
-module _ (class : ℕ → ℕ) (s : List ℕ) (at : ℕ) where
-  short-ends : (most e : ℕ) → shortAt class most s at ≡ whole e → e ≡ ends (isName class) s at
-  unfolding shortAt
-  short-ends most e q = go (ltb most (ends (isName class) s at - at)) q
-    where
-      go : (t : Bool) → cond t (refused 14 at) (whole (ends (isName class) s at)) ≡ whole e → e ≡ ends (isName class) s at
-      go true h = unread h
-      go false h = sym (whole-same h)
-
-  pub part-ends : (most e : ℕ) → partAt class most s at ≡ whole e → (has (isStart class) s at ≡ true) × (e ≡ ends (isName class) s at)
-  unfolding partAt
-  part-ends most e q =
-      let x = then-whole (λ next. shortAt class most s at) (one (isStart class) s at) e q in
-      (one-has (isStart class) s at (x .0) (x .1) .0, short-ends most e (x .2))
-
--- the name that stands at the place, if one does
-abbrev pub nameOf : (ℕ → ℕ) → List ℕ → ℕ → Named
-nameOf class s at =
-    let first = ends (isName class) s at in
-    cond (has (is 58) s first) (record { local = first + 1; end = ends (isName class) s (first + 1) }) (record { local = at; end = first })
-
-module _ (class : ℕ → ℕ) (s : List ℕ) (at : ℕ) where
-  pub name-is : (most : ℕ) (n : Named) → nameAt class most s at ≡ whole n → (has (isStart class) s at ≡ true) × (n ≡ nameOf class s at)
-  unfolding nameAt
-  name-is most n q =
-      let x = then-whole _ (partAt class most s at) n q in
-      let y = part-ends class s at most (x .0) (x .1) in
-      (y .0, subst (λ (first : ℕ). n ≡ named first) (y .1) (go (x .0) (has (is 58) s (x .0)) refl (x .2)))
-    where
-      one-part : ℕ → Named
-      one-part first = record { local = at; end = first }
-
-      two-parts : ℕ → ℕ → Named
-      two-parts first last = record { local = first + 1; end = last }
-
-      named : ℕ → Named
-      named first = cond (has (is 58) s first) (two-parts first (ends (isName class) s (first + 1))) (one-part first)
-
-      go : (first : ℕ) (t : Bool) → has (is 58) s first ≡ t → cond t (partAt class most s (first + 1) >>= (λ last. whole (two-parts first last))) (whole (one-part first)) ≡ whole n
-          → n ≡ named first
-      go first true e h =
-          let x = then-whole (λ last. whole (two-parts first last)) (partAt class most s (first + 1)) n h in
-          sym (whole-same (x .2)) ∙ (ap (two-parts first) (part-ends class s (first + 1) most (x .0) (x .1) .1) ∙ cond-true _ e)
-      go first false e h = sym (whole-same h) ∙ cond-false _ e
-
-  pub name-same : (most most′ : ℕ) (n n′ : Named) → nameAt class most s at ≡ whole n → nameAt class most′ s at ≡ whole n′ → n ≡ n′
-  name-same most most′ n n′ q q′ = name-is most n q .1 ∙ sym (name-is most′ n′ q′ .1)
+use Rattle.message.proofs.Shapes.{name-is, name-same}
 
 -- ---- the attributes one by one
 
 -- no name begins at the end of a tag
 no-name : (s : List ℕ) (at : ℕ) → has endsTag s at ≡ true → has (isStart classOf) s at ≡ true → ⊥
-unfolding classOf
-no-name s at end begin = go (byteAt s at) (has-byte endsTag s at end) (has-byte (isStart classOf) s at begin)
-  where
-    starts : (x y : ℕ) → eqb x y ≡ true → isStart classOf y ≡ false → isStart classOf x ≡ true → ⊥
-    starts x y e fails h = true-false h (ap (isStart classOf) (eqb-true x y e) ∙ fails)
-
-    go : (x : ℕ) → endsTag x ≡ true → isStart classOf x ≡ true → ⊥
-    go x e begins = ⊎-elim (λ h. starts x 47 h refl begins) (λ h. starts x 62 h refl begins) (either (eqb x 47) (eqb x 62) e)
+no-name s at end begin = true-false begin (has-fails endsTag (isStart classOf) end-no-start s at end)
 
 module _ (s : List ℕ) (l : Limits) where
   abbrev place : ℕ → ℕ

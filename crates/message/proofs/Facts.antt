@@ -2,14 +2,16 @@
 -- read again at its place. Assumes nothing.
 use Prim.Native.Nat.{ℕ, zero, suc, _+_, _-_}
 use mathlib.Core.Path.{_≡_, refl, sym, _∙_, ap, subst}
+use mathlib.Core.Logic.{_⊎_, inl, inr}
 use mathlib.Core.Bool.{Bool, true, false, cond}
 use mathlib.Core.List.{List, []}
 use native.Mathlib.Omega.{arith}
 use lib.ListN.{length}
 use lib.Dec.{ltb, eqb}
+use Rattle.laws.proofs.Tests.{true-false}
 use Rattle.message.specs.Markup.{aroundAt}
 use Rattle.message.specs.Class.{isStart}
-use Rattle.message.specs.Reading.{Reading, _>>=_, is, has, one}
+use Rattle.message.specs.Reading.{Reading, _>>=_, isWhole, is, has, one}
 use Rattle.message.specs.Reading.Reading.{whole, refused}
 use Rattle.message.specs.Names.{Named, nameAt}
 use Rattle.message.proofs.Laws.{one-has}
@@ -23,10 +25,20 @@ pub then-whole : {A B : Type 0} (next : A → Reading B) (a : Reading A) (y : B)
 then-whole next (whole x) y q = (x, refl, q)
 then-whole next (refused n p) y q = unread q
 
+pub whole-is : {A : Type 0} (r : Reading A) → isWhole r ≡ true → (x : A) × (r ≡ whole x)
+whole-is (whole x) e = (x, refl)
+whole-is (refused n p) e = absurd (true-false e refl)
+
 -- two readings that go on alike after what was read
 pub then-same : {A B : Type 0} (next next′ : A → Reading B) (a : Reading A) → ((x : A) → a ≡ whole x → next x ≡ next′ x) → (a >>= next) ≡ (a >>= next′)
 then-same next next′ (whole x) g = g x refl
 then-same next next′ (refused n p) g = refl
+
+-- a refusal of two readings is that of the first or of the second
+pub then-refused : {A B : Type 0} (next : A → Reading B) (a : Reading A) {n p : ℕ} → (a >>= next) ≡ refused n p
+    → (a ≡ refused n p) ⊎ ((x : A) × (a ≡ whole x) × (next x ≡ refused n p))
+then-refused next (whole x) q = inr (x, refl, q)
+then-refused next (refused n′ p′) {n} {p} q = let y : n′ ≡ n = cc in let z : p′ ≡ p = cc in inl (rw (y, z))
 
 -- a refusal goes through what is made of a reading
 pub refused-then : {A B : Type 0} (a : Reading A) (f : A → B) {n p : ℕ} → (a >>= (λ x. whole (f x))) ≡ refused n p → a ≡ refused n p

@@ -15,7 +15,8 @@ use Rattle.message.specs.Markup.{declares, utf8At, encodingAt, declarati
 use Rattle.message.specs.Elements.{declaredOf}
 use Rattle.message.specs.Limits.{Limits}
 use Rattle.message.proofs.Laws.{cond-cases, has-in, has-lt, has-byte, one-yes, one-no, one-has, ends-more, ends-stop, both-first, both-second}
-use Rattle.message.proofs.Facts.{then-whole}
+use Rattle.message.proofs.Facts.{whole-is}
+use Rattle.message.proofs.Words.{word-first, word-ends}
 use Rattle.message.proofs.Automaton.{exact, exactly, first, before, State, ground, opened, expect, blanks, declared, versionQuote, encodingQuote, versioned, encodingName, Next, dead, goes, step, expecting, solid-equals, solid-question, solid-v, equals, versionWord, encodingWord, declaredEnd}
 use Rattle.message.proofs.Dues.{due, At}
 use Rattle.message.proofs.Going.{Stuck, Outcome, outcome-then, outcome-as, outcome-one, outcome-expect, outcome-word, at-has, at-ends}
@@ -23,18 +24,6 @@ use Rattle.message.proofs.Acting.{ends-fails, fails-byte, stuck-here, A
 use Rattle.message.proofs.GoingQuotes.{Quoting, Opened, going-opened, going-blanks-word}
 use Rattle.message.proofs.GoingMarkup.{other-byte, byte-test, and-none}
 use Rattle.message.proofs.Ways.{at-within}
-
--- the first byte of a word that stands there, and the rest
-pub word-first : (s : List ℕ) (b : ℕ) (w : List ℕ) (i e : ℕ) → wordAt (b ∷ w) s i ≡ whole e → (has (is b) s i ≡ true) × (wordAt w s (i + 1) ≡ whole e)
-unfolding wordAt
-word-first s b w i e q =
-    let x = then-whole (wordAt w s) (one (is b) s i) e q in
-    let o = one-has (is b) s i (x .0) (x .1) in
-    (o .0, ap (wordAt w s) (sym (o .1)) ∙ x .2)
-
-pub whole-is : {A : Type 0} (r : Reading A) → isWhole r ≡ true → (x : A) × (r ≡ whole x)
-whole-is (whole x) e = (x, refl)
-whole-is (refused n p) e = absurd (true≢false (sym e))
 
 pub question-no-start : isStart classOf 63 ≡ false
 unfolding classOf
@@ -92,12 +81,6 @@ module _ (l : Limits) (s : List ℕ) where
       rw (lt-ltb 0 from some, le-leb from (length s) (omega (arith, at-within l s to _ here)))
       (outcome-as l s _ _ (one (is (byteAt s (from - 1))) s to) (outcome-expect l s (byteAt s (from - 1)) [] k to here) (λ e q h. h .0))
 
-  -- words end behind where they begin
-  word-on : (w : List ℕ) (i e : ℕ) → wordAt w s i ≡ whole e → i ≤ e
-  unfolding wordAt
-  word-on [] i e q = let z : i ≡ e = cc in omega arith
-  word-on (b ∷ w) i e q = let x = word-first s b w i e q in omega (arith, word-on w (i + 1) e (x .1))
-
   -- ---- the encoding
 
   utf8-on : (from to : ℕ) → utf8At s from ≡ whole to → from ≤ to
@@ -105,8 +88,8 @@ module _ (l : Limits) (s : List ℕ) where
   utf8-on from to q = go (has (is 117) s from) q
     where
       go : (t : Bool) → cond t (wordAt markup.lowerUtf8 s from) (wordAt markup.upperUtf8 s from) ≡ whole to → from ≤ to
-      go true r = word-on markup.lowerUtf8 from to r
-      go false r = word-on markup.upperUtf8 from to r
+      go true r = omega (arith, word-ends s markup.lowerUtf8 from to r)
+      go false r = omega (arith, word-ends s markup.upperUtf8 from to r)
 
   going-utf8 : (q from : ℕ) → At l s (encodingName q) from → Outcome l s (λ e. At l s (expect (exact q) [] declaredEnd) e) (utf8At s from)
   unfolding utf8At wordAt
@@ -188,5 +171,5 @@ module _ (l : Limits) (s : List ℕ) where
       let acts = acts-at l s (equals versionQuote) named at-named refl refl in
       outcome-then l s (Opened l s versionQuotes named acts) _ _ (openedAt classOf s named) (going-opened l s versionQuotes named acts) (λ from r opened.
       outcome-then l s _ _ _ (wordAt markup.oneDotZero s from) (outcome-word l s markup.oneDotZero (exact (byteAt s (from - 1)) ∷ []) (versioned false) from (opened .here)) (λ to t at-to.
-      outcome-then l s _ _ _ (closedAt s from to) (going-closed from to (versioned false) (opened .some) at-to (word-on markup.oneDotZero from to t)) (λ done u at-done.
+      outcome-then l s _ _ _ (closedAt s from to) (going-closed from to (versioned false) (opened .some) at-to (omega (arith, word-ends s markup.oneDotZero from to t))) (λ done u at-done.
       cond-cases (Outcome l s (λ e. At l s (ground before) e)) (has (is 63) s (ends (isSpace classOf) s done)) (λ h. going-end done at-done h) (λ h. going-encoding done at-done h)))))

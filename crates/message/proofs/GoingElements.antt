@@ -21,6 +21,7 @@ use Rattle.message.proofs.Progress.{past-whole}
 use Rattle.message.proofs.MarkupLoop.{past-bang}
 use Rattle.message.proofs.Trees.{text-whole, free-whole, element-on}
 use Rattle.message.proofs.Facts.{Starts, start-starts}
+use Rattle.message.proofs.Shapes.{Shape, name-shape}
 use Rattle.message.proofs.Automaton.{Ground, first, before, behind, inside, State, ground, opened, Next, dead, goes, step, after, closing, betweenTags}
 use Rattle.message.proofs.Dues.{isBehind, isFirst, depth, due, At, stateAt}
 use Rattle.message.proofs.Going.{opens, dies, Outcome, outcome-then, outcome-as, at-has}
@@ -29,7 +30,7 @@ use Rattle.message.proofs.GoingText.{Safe, going-text}
 use Rattle.message.proofs.GoingMarkup.{other-byte, byte-test, and-none, going-bang, Outer, Around, going-around}
 use Rattle.message.proofs.GoingDeclaration.{going-declaration}
 use Rattle.message.proofs.GoingStarts.{names, slashed, Place, Started, going-deep, going-start}
-use Rattle.message.proofs.GoingEndTags.{Shape, name-shape, going-end-tag}
+use Rattle.message.proofs.GoingEndTags.{going-end-tag}
 use Rattle.message.proofs.Ways.{at-within}
 
 slash-no-start : isStart classOf 47 ≡ false
@@ -68,7 +69,7 @@ module _ (l : Limits) (s : List ℕ) where
   abbrev Child : (ℕ → Reading Element) → ℕ → Type 0
   Child child d = (g : Ground) (i : ℕ) → d + depth g ≡ l .levels → Place l s g i → Outcome l s (λ e. At l s (after (names g)) (e .tag .end)) (child i)
 
-  module _ (d : ℕ) (child : Child (elementAt classOf s l d) d) (start : Start) (o : List (List ℕ)) (deep-enough : d + suc (length o) ≡ l .levels) (shape : Shape s (start .begin) (start .name)) where
+  module _ (d : ℕ) (child : Child (elementAt classOf s l d) d) (start : Start) (o : List (List ℕ)) (deep-enough : d + suc (length o) ≡ l .levels) (shape : Shape classOf s (start .begin) (start .name)) where
     abbrev v : List ℕ
     v = part s (start .begin) (start .name .end)
 
@@ -130,7 +131,7 @@ module _ (l : Limits) (s : List ℕ) where
       go true h = started .emptied h
       go false h =
           outcome-then l s _ _ _ (contentAt classOf s l (length s) (elementAt classOf s l d) st (st .from))
-          (going-content d child st (names g) (omega (arith, depth-names g)) (name-shape (l .part) s (st .begin) (st .name) (starts .named)) (length s) 0 (st .from) (omega arith) tt (within h)) (λ c r at-c. at-c)
+          (going-content d child st (names g) (omega (arith, depth-names g)) (name-shape classOf s (st .begin) (l .part) (st .name) (starts .named)) (length s) 0 (st .from) (omega arith) tt (within h)) (λ c r at-c. at-c)
 
   going-element : (d : ℕ) → Child (elementAt classOf s l d) d
   unfolding elementAt

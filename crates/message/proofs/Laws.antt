@@ -12,6 +12,7 @@ use lib.ListN.{length, drop, drop-of-length-le, length-drop}
 use lib.Seq.{drop-cons}
 use lib.Dec.{ltb, leb, eqb}
 use borrow.Author.Tests.{lt-ltb, le-ltb, le-leb, lt-leb, eq-eqb, ne-eqb, ltb-true, leb-true}
+use Rattle.laws.proofs.Tests.{true-false, and-last}
 use Rattle.message.specs.Class.{between}
 use Rattle.message.specs.Reading.{Reading, _>>=_, is, has, one, span, ends, upTo, wordAt, byteAt}
 use Rattle.message.specs.Reading.Reading.{whole, refused}
@@ -61,9 +62,17 @@ pub cond-cases : {A : Type 0} (P : A → Type 0) {x y : A} (t : Bool) → (t ≡
 cond-cases P true p q = p refl
 cond-cases P false p q = q refl
 
+-- on either way
+pub cond-both : {A : Type 0} (P : A → Type 0) {x y : A} (t : Bool) → P x → P y → P (cond t x y)
+cond-both P t p q = cond-cases P t (λ e. p) (λ e. q)
+
 pub both-first : (a b : Bool) → (a && b) ≡ true → a ≡ true
 both-first true b e = refl
 both-first false b e = e
+
+pub both-second : (a b : Bool) → (a && b) ≡ true → b ≡ true
+both-second true b e = e
+both-second false b e = absurd (true-false refl (sym e))
 
 -- ---- one byte, and as many as pass a test
 
@@ -104,6 +113,9 @@ module _ (test : ℕ → Bool) (s : List ℕ) (at : ℕ) where
   -- what the test says of the byte there
   pub has-byte : has test s at ≡ true → test (byteAt s at) ≡ true
   has-byte e = sym (has-in (has-lt e)) ∙ e
+
+  pub fails-byte : at < length s → has test s at ≡ false → test (byteAt s at) ≡ false
+  fails-byte h e = sym (has-in h) ∙ e
 
   pub one-yes : has test s at ≡ true → one test s at ≡ whole (at + 1)
   unfolding one
@@ -208,10 +220,6 @@ module _ (test : ℕ → Bool) (s : List ℕ) where
     pub up-some : (n ≡ k → ⊥) → at + n ≡ ends test s at
     up-some h = ap (λ (m : ℕ). at + m) n-is ∙ ends-some k at (λ e. h (n-is ∙ e))
 
-pub both-second : (a b : Bool) → (a && b) ≡ true → b ≡ true
-both-second true b e = e
-both-second false b e = let z : _≡_ {A = ℕ} 0 1 = cc in absurd (omega arith)
-
 -- ---- a byte of a range
 
 pub between-both : (low high x : ℕ) → between low high x ≡ true → (low ≤ x) × (x ≤ high)
@@ -226,11 +234,7 @@ module _ (low high x : ℕ) where
   between-below h = rw (lt-leb low x h)
 
   pub between-above : high < x → between low high x ≡ false
-  between-above h = go (leb low x)
-    where
-      go : (t : Bool) → (t && leb x high) ≡ false
-      go true = lt-leb x high h
-      go false = refl
+  between-above h = and-last (leb low x) (lt-leb x high h)
 
 module _ (low high : ℕ) (s : List ℕ) (at : ℕ) where
   pub has-between : has (between low high) s at ≡ true → (at < length s) × (low ≤ byteAt s at) × (byteAt s at ≤ high)

@@ -11,6 +11,7 @@
 -- `Repeated` that end tags repeat names.
 pub mod Laws
 pub mod Digits
+pub mod Bytes
 pub mod Runs
 pub mod Parts
 pub mod ClassTable
@@ -19,6 +20,8 @@ pub mod Loops
 pub mod MarkupLoop
 pub mod Trees
 pub mod Facts
+pub mod Words
+pub mod Shapes
 pub mod Automaton
 pub mod Dues
 pub mod Going

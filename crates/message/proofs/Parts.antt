@@ -12,20 +12,17 @@ use lib.Seq.{drop-cons, slice-cons, getD-drop, getD-take}
 use lib.Dec.{eqb}
 use borrow.Author.Tests.{eq-eqb, ne-eqb}
 use Rattle.laws.specs.Bytes.{sameBytes}
+use Rattle.laws.proofs.Tests.{and-last}
 use Rattle.message.specs.Elements.{part}
 
 -- ---- two runs of bytes
-
-fails-too : (t : Bool) {u : Bool} → false ≡ u → false ≡ (t && u)
-fails-too true h = h
-fails-too false h = refl
 
 pub other-length : (u v : List ℕ) → (length u ≡ length v → ⊥) → false ≡ sameBytes u v
 unfolding sameBytes
 other-length [] [] h = absurd (h refl)
 other-length [] (y ∷ v) h = refl
 other-length (x ∷ u) [] h = refl
-other-length (x ∷ u) (y ∷ v) h = fails-too (eqb x y) (other-length u v (λ e. h (ap suc e)))
+other-length (x ∷ u) (y ∷ v) h = sym (and-last (eqb x y) (sym (other-length u v (λ e. h (ap suc e)))))
 
 -- from their k-th bytes on
 module _ (u v : List ℕ) (k : ℕ) where
@@ -81,6 +78,18 @@ part-split s b m e p q l = go (m - b) b (omega arith)
         part-some s b e (omega arith) l
         ∙ ap (λ (r : List ℕ). getD s b 0 ∷ r) (go n (b + 1) (omega arith))
         ∙ sym (ap (λ (r : List ℕ). r ++ part s m e) (part-some s b m (omega arith) (omega arith)))
+
+module _ (s : List ℕ) where
+  -- parted at a byte
+  pub part-parted : (b m e : ℕ) → b ≤ m → m < e → e ≤ length s → part s b e ≡ part s b m ++ (getD s m 0 ∷ part s (m + 1) e)
+  part-parted b m e p h l = part-split s b m e p (omega arith) l ∙ ap (λ (u : List ℕ). part s b m ++ u) (part-some s m e h l)
+
+  pub part-one : (b : ℕ) → b < length s → part s b (b + 1) ≡ getD s b 0 ∷ []
+  part-one b h = part-some s b (b + 1) (omega arith) (omega arith) ∙ ap (λ (u : List ℕ). getD s b 0 ∷ u) (part-none s (b + 1) (b + 1) (omega arith))
+
+  -- one byte more
+  pub part-more : (b e : ℕ) → b ≤ e → e < length s → part s b (e + 1) ≡ part s b e ++ (getD s e 0 ∷ [])
+  part-more b e p h = part-split s b e (e + 1) p (omega arith) (omega arith) ∙ ap (λ (u : List ℕ). part s b e ++ u) (part-one e h)
 
 -- what a local is after `if e < n { e } else { n }`, from the way that control came
 pub lesser : {T F : Type 0} {n e stop : ℕ} → (T × (stop ≡ e)) ⊎ (F × (stop ≡ n)) → (T → e < n) → (F → n ≤ e) → stop ≡ min e n

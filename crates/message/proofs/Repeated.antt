@@ -16,28 +16,10 @@ use Rattle.message.specs.Elements.{part, endPartAt, endNameAt, endTagAt}
 use Rattle.message.proofs.Laws.{cond-true, cond-false, cond-cases, has-lt, one-has, ends-from}
 use Rattle.message.proofs.Runs.{byte-is}
 use Rattle.message.proofs.Trees.{whole-same, name-on}
-use Rattle.message.proofs.Parts.{part-none, part-some, part-split}
+use Rattle.message.proofs.Parts.{part-parted}
+use Rattle.message.proofs.Words.{word-part}
 use Rattle.message.proofs.Facts.{then-whole}
-use Rattle.message.proofs.Carried.{name-is}
-
-module _ (s : List ℕ) where
-  -- a part of the message, parted at a byte
-  parted : (a m e : ℕ) → a ≤ m → m < e → e ≤ length s → part s a e ≡ part s a m ++ (byteAt s m ∷ part s (m + 1) e)
-  parted a m e order h l = part-split s a m e order (omega arith) l ∙ ap (λ (u : List ℕ). part s a m ++ u) (part-some s m e h l)
-
-  -- a word that was read stands there
-  pub word-part : (w : List ℕ) (at i : ℕ) → wordAt w s at ≡ whole i → i ≤ length s → (at ≤ i) × (part s at i ≡ w)
-  unfolding wordAt
-  word-part [] at i q l = let e : at ≡ i = whole-same q in (omega arith, part-none s at i (omega arith))
-  word-part (x ∷ w) at i q l =
-      let y = then-whole (wordAt w s) (one (is x) s at) i q in
-      let o = one-has (is x) s at (y .0) (y .1) in
-      let r = word-part w (y .0) i (y .2) l in
-      let after : part s (at + 1) i ≡ w = ap (λ (j : ℕ). part s j i) (sym (o .1)) ∙ r .1 in
-      (omega (arith, r .0, o .1), part-some s at i (omega (arith, r .0, o .1)) l ∙ cons (byte-is x s at (o .0)) after)
-    where
-      cons : {x y : ℕ} {u v : List ℕ} → x ≡ y → u ≡ v → x ∷ u ≡ y ∷ v
-      cons p q = rw (p, q)
+use Rattle.message.proofs.Shapes.{name-is}
 
 module _ (class : ℕ → ℕ) (s : List ℕ) (l : Limits) where
   end-part : (w : List ℕ) (at i : ℕ) → endPartAt class s l w at ≡ whole i → i ≤ length s → (at ≤ i) × (part s at i ≡ w)
@@ -67,8 +49,8 @@ module _ (class : ℕ → ℕ) (s : List ℕ) (l : Limits) where
       let rests : part s (x .0 + 1) i ≡ part s (first + 1) e = ap (λ (j : ℕ). part s j i) (sym (o .1)) ∙ rest .1 in
       let colons : byteAt s (x .0) ≡ byteAt s first = byte-is 58 s (x .0) (o .0) ∙ sym (byte-is 58 s first colon) in (
         omega (arith, lead .0, rest .0, o .1),
-        parted s at (x .0) i (lead .0) (omega (arith, rest .0, o .1)) h
-            ∙ (joined leads colons rests ∙ sym (parted s b first e after room within)),
+        part-parted s at (x .0) i (lead .0) (omega (arith, rest .0, o .1)) h
+            ∙ (joined leads colons rests ∙ sym (part-parted s b first e after room within)),
       )
     where
       joined : {u u′ v v′ : List ℕ} {x x′ : ℕ} → u ≡ u′ → x ≡ x′ → v ≡ v′ → u ++ (x ∷ v) ≡ u′ ++ (x′ ∷ v′)

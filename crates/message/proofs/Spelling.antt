@@ -20,27 +20,18 @@ use Rattle.message.specs.Elements.{part}
 use Rattle.message.specs.Due.{Spelled, Declares, Opening, doctype, cdata, instruction}
 use Rattle.message.proofs.Laws.{and-true, or-true, has-in, has-lt, has-byte, one-yes, one-has, both-first, both-second}
 use Rattle.message.proofs.Parts.{part-length, part-some, part-none}
-use Rattle.message.proofs.Repeated.{word-part}
+use Rattle.message.proofs.Facts.{whole-is}
+use Rattle.message.proofs.Words.{word-first, word-ends, word-within, word-part}
 use Rattle.laws.proofs.Tests.{never, either}
 use Rattle.message.proofs.GoingMarkup.{or-last, not-both, byte-test, bang-no-start}
-use Rattle.message.proofs.GoingDeclaration.{word-first, whole-is, question-no-start}
+use Rattle.message.proofs.GoingDeclaration.{question-no-start}
 use Rattle.message.proofs.Automaton.{Ground}
 use Rattle.message.proofs.Dues.{isFirst, opening}
 
 module _ (s : List ℕ) where
-  -- where a word ends
-  word-ends : (w : List ℕ) (p e : ℕ) → wordAt w s p ≡ whole e → p ≤ length s → (e ≤ length s) × (e ≡ p + length w)
-  unfolding wordAt
-  word-ends [] p e q within = let same : p ≡ e = cc in (omega arith, omega arith)
-  word-ends (b ∷ w) p e q within =
-      let x = word-first s b w p e q in
-      let more = word-ends w (p + 1) e (x .1) (omega (arith, has-lt (is b) s p (x .0))) in
-      (more .0, omega (arith, more .1))
-
   pub word-spelled : (w : List ℕ) (p e : ℕ) → wordAt w s p ≡ whole e → p ≤ length s → Spelled w s p
   word-spelled w p e q within =
-      let x = word-ends w p e q within in
-      ap (part s p) (sym (x .1)) ∙ word-part s w p e q (x .0) .1
+      ap (part s p) (sym (word-ends s w p e q)) ∙ word-part s w p e q (word-within s w p e q within) .1
 
   same-head : {x y : ℕ} {u v : List ℕ} → x ∷ u ≡ y ∷ v → (x ≡ y) × (u ≡ v)
   same-head e = (cc, cc)
@@ -59,9 +50,6 @@ module _ (s : List ℕ) where
   -- the first byte of a word that stands there
   pub spelled-first : (b : ℕ) (w : List ℕ) (p : ℕ) → Spelled (b ∷ w) s p → has (is b) s p ≡ true
   spelled-first b w p h = word-first s b w p (p + length (b ∷ w)) (spelled-word (b ∷ w) p h) .0
-
-  spelled-rest : (b : ℕ) (w : List ℕ) (p : ℕ) → Spelled (b ∷ w) s p → isWhole (wordAt w s (p + 1)) ≡ true
-  spelled-rest b w p h = ap isWhole (word-first s b w p (p + length (b ∷ w)) (spelled-word (b ∷ w) p h) .1)
 
   -- ---- the declaration
 

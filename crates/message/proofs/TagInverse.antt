@@ -28,59 +28,9 @@ use Rattle.message.proofs.GoingNames.{Naming, NameRead, NameBefore, goi
 use Rattle.message.proofs.GoingAttributes.{or-both, Tagged, Fresh, spaced, going-fresh-name, going-quoted, next-tagged, end-no-start}
 use Rattle.message.proofs.GoingAttributes as attributes
 use Rattle.message.proofs.GoingStarts.{names, slashed, Place, naming, name-before, tagged-there}
-use Rattle.message.proofs.Carried.{part-ends, name-is, name-same}
+use Rattle.message.proofs.Shapes.{name-is, name-same, name-refused}
 use Rattle.message.proofs.Alive.{state-one, alive-before, not-stuck-before}
 use Rattle.message.proofs.Accepted.{may-ground}
-
--- ---- a name that is whole under one limit is refused under another no later than it ends
-
-module _ (s : List ℕ) where
-  part-refused : (most at n q : ℕ) → has (isStart classOf) s at ≡ true → partAt classOf most s at ≡ refused n q → q ≡ at
-  unfolding partAt shortAt
-  part-refused most at n q starts r =
-      go (ltb most (ends (isName classOf) s at - at)) (went (λ next. shortAt classOf most s at) (one-yes (isStart classOf) s at starts) ∙ r)
-    where
-      go : (t : Bool) → cond t (refused 14 at) (whole (ends (isName classOf) s at)) ≡ refused n q → q ≡ at
-      go true e = cc
-      go false e = let z : _≡_ {A = ℕ} 0 1 = cc in absurd (omega arith)
-
-  name-refused : (most most′ b n q : ℕ) (name : Named) → 0 < b → nameAt classOf most s b ≡ whole name → nameAt classOf most′ s b ≡ refused n q → q ≤ name .end
-  unfolding nameAt
-  name-refused most most′ b n q name pos h r =
-      let x = then-whole (behind most) (partAt classOf most s b) name h in
-      let y = part-ends classOf s b most (x .0) (x .1) in
-      go (x .0) (y .0) (y .1) (x .2) (partAt classOf most′ s b) refl r
-    where
-      two : ℕ → ℕ → Reading Named
-      two end last = whole (record { local = end + 1; end = last })
-
-      behind : ℕ → ℕ → Reading Named
-      behind m end = cond (has (is 58) s end) (partAt classOf m s (end + 1) >>= two end) (whole (record { local = b; end = end }))
-
-      later : (end last : ℕ) → two end last ≡ whole name → last ≤ name .end
-      later end last e = omega (arith, ap (λ (m : Named). m .end) (whole-same e))
-
-      second : (end : ℕ) (a : Reading ℕ) → partAt classOf most s (end + 1) ≡ a → (a >>= two end) ≡ whole name → (partAt classOf most′ s (end + 1) >>= two end) ≡ refused n q → q ≤ name .end
-      second end (refused m i) e w g = let z : _≡_ {A = ℕ} 0 1 = cc in absurd (omega arith)
-      second end (whole last) e w g =
-          let y = part-ends classOf s (end + 1) most last e in
-          turn (partAt classOf most′ s (end + 1)) refl g (y .0) (omega (arith, later end last w, y .1, ends-from (isName classOf) s (end + 1)))
-        where
-          turn : (a : Reading ℕ) → partAt classOf most′ s (end + 1) ≡ a → (a >>= two end) ≡ refused n q → has (isStart classOf) s (end + 1) ≡ true → end + 1 ≤ name .end → q ≤ name .end
-          turn (whole i) e′ g′ starts le = let z : _≡_ {A = ℕ} 0 1 = cc in absurd (omega arith)
-          turn (refused m i) e′ g′ starts le = let same : i ≡ q = cc in omega (arith, part-refused most′ (end + 1) m i starts e′)
-
-      split : (end : ℕ) (t : Bool) → cond t (partAt classOf most s (end + 1) >>= two end) (whole (record { local = b; end = end })) ≡ whole name
-          → cond t (partAt classOf most′ s (end + 1) >>= two end) (whole (record { local = b; end = end })) ≡ refused n q → q ≤ name .end
-      split end true w g = second end (partAt classOf most s (end + 1)) refl w g
-      split end false w g = let z : _≡_ {A = ℕ} 0 1 = cc in absurd (omega arith)
-
-      go : (end : ℕ) → has (isStart classOf) s b ≡ true → end ≡ ends (isName classOf) s b → behind most end ≡ whole name
-          → (a : Reading ℕ) → partAt classOf most′ s b ≡ a → (a >>= behind most′) ≡ refused n q → q ≤ name .end
-      go end starts run w (refused m i) e g =
-          let same : i ≡ q = cc in
-          omega (arith, part-refused most′ b m i starts e, past-whole (λ m. m .end) (length s) (b - 1) h (past-name classOf s (b - 1) most b (omega arith)))
-      go end starts run w (whole end′) e g = split end (has (is 58) s end) w (subst (λ (k : ℕ). behind most′ k ≡ refused n q) (part-ends classOf s b most′ end′ e .1 ∙ sym run) g)
 
 -- a byte that passes a test is none that fails it
 no-byte : (s : List ℕ) (b i : ℕ) (test : ℕ → Bool) → test b ≡ false → has test s i ≡ true → has (is b) s i ≡ false
@@ -105,7 +55,7 @@ attribute-on s last to stands =
 
 module _ (l : Limits) (s : List ℕ) (p : ℕ) (st : State) (here : At l s st p) where
   -- a name that stands before p was read
-  module _ (N : Naming l s) (b : ℕ) (at-b : NameBefore l s N b) (name : Named) (most : ℕ) (named : nameAt classOf most s b ≡ whole name) (pos : 0 < b) (less : name .end < p) where
+  module _ (N : Naming l s) (b : ℕ) (at-b : NameBefore l s N b) (name : Named) (most : ℕ) (named : nameAt classOf most s b ≡ whole name) (less : name .end < p) where
     abbrev Was : Type 0
     Was = (nameAt classOf (l .part) s b ≡ whole name) × NameRead l s N b name
 
@@ -117,7 +67,7 @@ module _ (l : Limits) (s : List ℕ) (p : ℕ) (st : State) (here : At l s st p)
             let same : n ≡ name = name-same classOf s b (l .part) most n name q named in
             (q ∙ ap whole same, subst (NameRead l s N b) same read)
         go (refused n i) q stuck =
-            absurd (not-stuck-before l s n i p st stuck here (omega (arith, name-refused s most (l .part) b n i name pos named q)))
+            absurd (not-stuck-before l s n i p st stuck here (omega (arith, name-refused classOf s b most (l .part) n i name named q)))
 
   -- behind a `<` where markup may begin
   pub record OpenedAt (at : ℕ) : Type 0 where
@@ -187,7 +137,7 @@ module _ (l : Limits) (s : List ℕ) (p : ℕ) (st : State) (here : At l s st p)
     -- behind the name
     tag-named : (name : Named) → NameStands s (at + 1) name → name .end < p → Tagged l s (part s (at + 1) (name .end)) (names (o .from)) [] (name .end)
     tag-named name stands far =
-        let w = name-was (naming l s (o .from) at place tag room) (at + 1) (name-before l s (o .from) at place tag room) name (stands .0) (stands .1) (omega arith) far in
+        let w = name-was (naming l s (o .from) at place tag room) (at + 1) (name-before l s (o .from) at place tag room) name (stands .0) (stands .1) far in
         tagged-there l s (o .from) at place tag room name (w .0) (w .1)
 
   -- ---- attributes
@@ -221,7 +171,7 @@ module _ (l : Limits) (s : List ℕ) (p : ℕ) (st : State) (here : At l s st p)
 
       fresh-there : Fresh l s n o seen last tagged no-end e
       fresh-there =
-          let w = name-was (attributes.naming l s n o seen) q (attributes.before l s n o seen last tagged no-end (stands .space) room-there) (stands .name) (stands .named .0) (stands .named .1) (omega (arith, on .0)) (omega (arith, on .2)) in
+          let w = name-was (attributes.naming l s n o seen) q (attributes.before l s n o seen last tagged no-end (stands .space) room-there) (stands .name) (stands .named .0) (stands .named .1) (omega (arith, on .2)) in
           go (isKnown (part s q e) seen) (going-fresh-name l s n o seen last tagged no-end (stands .space) (leb-false (l .attributes) (length seen) room-there) (stands .name) (w .0) (w .1))
         where
           go : (t : Bool) → Outcome l s (Fresh l s n o seen last tagged no-end) (cond t (refused 9 e) (whole e)) → Fresh l s n o seen last tagged no-end e
