@@ -15,23 +15,6 @@ use Rattle.message.proofs.Automaton.{State, Next, dead, goes, step}
 use Rattle.message.proofs.Dues.{mayEnd, due, At}
 use Rattle.message.proofs.Going.{Stuck, dies, cut, Outcome, at-step, at-has, at-ends}
 
--- a run ends where the test fails
-module _ (test : ℕ → Bool) (s : List ℕ) where
-  fails-turn : (i : ℕ) (t : Bool) → has test s i ≡ t → (has test s i ≡ true → has test s (ends test s (i + 1)) ≡ false) → has test s (ends test s i) ≡ false
-  fails-turn i true h more = rw (ends-more test s i h) (more h)
-  fails-turn i false h more = rw (ends-stop test s i h) h
-
-  fails-on : (n i : ℕ) → length s ≤ n + i → has test s (ends test s i) ≡ false
-  fails-on zero i enough = let out = has-out test s i (omega arith) in rw (ends-stop test s i out) out
-  fails-on (suc n) i enough = fails-turn i (has test s i) refl (λ h. fails-on n (i + 1) (omega arith))
-
-  pub ends-fails : (i : ℕ) → has test s (ends test s i) ≡ false
-  ends-fails i = fails-on (length s) i (omega arith)
-
--- what a test that fails says of the byte there
-pub fails-byte : (test : ℕ → Bool) (s : List ℕ) (i : ℕ) → i < length s → has test s i ≡ false → test (byteAt s i) ≡ false
-fails-byte test s i inside h = sym (has-in test s i inside) ∙ h
-
 module _ (l : Limits) (s : List ℕ) where
   -- a state that the message may not end in, and that no byte leads on from
   pub stuck-here : {st : State} {i : ℕ} → At l s st i → mayEnd st ≡ false → (i < length s → step st (byteAt s i) ≡ dead) → Stuck l s 9 i

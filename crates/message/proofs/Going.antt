@@ -17,7 +17,7 @@ use Rattle.message.specs.Reading as reading
 use Rattle.message.specs.Reading.Reading.{whole, refused}
 use Rattle.message.specs.Limits.{Limits}
 use Rattle.message.specs.Readable.{TagStands, PartStands}
-use Rattle.message.proofs.Laws.{has-in, has-out, has-lt, has-byte, one-yes, one-no, ends-more, ends-stop, both-first, both-second}
+use Rattle.message.proofs.Laws.{has-in, has-out, has-lt, has-byte, one-yes, one-no, ends-more, ends-stop, both-first, both-second, fails-byte}
 use Rattle.message.proofs.Automaton.{Test, exact, exactly, Ground, State, ground, expect, inTag, Next, dead, goes, step, expecting}
 use Rattle.message.proofs.Dues.{mayEnd, depth, opening, tooDeep, long, due, further, stateAt, At}
 
@@ -114,13 +114,10 @@ module _ (l : Limits) (s : List ℕ) where
 
   -- ---- a word
 
-  byte-has : (test : ℕ → Bool) (i : ℕ) → i < length s → has test s i ≡ false → test (byteAt s i) ≡ false
-  byte-has test i inside h = sym (has-in test s i inside) ∙ h
-
   -- one byte that has to come
   pub outcome-expect : (b : ℕ) (ts : List Test) (k : State) (i : ℕ) → At l s (expect (exact b) ts k) i → Outcome (λ e. At l s (expecting ts k) e × (e ≡ i + 1)) (one (is b) s i)
   outcome-expect b ts k i here =
-      outcome-one (expecting ts k) (is b) i here refl (λ h. refl) (λ h. rw (has-byte (is b) s i h)) (λ inside h. rw (byte-has (is b) i inside h))
+      outcome-one (expecting ts k) (is b) i here refl (λ h. refl) (λ h. rw (has-byte (is b) s i h)) (λ inside h. rw (fails-byte (is b) s i inside h))
 
   pub outcome-word : (w : List ℕ) (ts : List Test) (k : State) (i : ℕ) → At l s (expecting (exactly w ++ ts) k) i → Outcome (λ e. At l s (expecting ts k) e) (wordAt w s i)
   unfolding wordAt

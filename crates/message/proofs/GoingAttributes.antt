@@ -16,13 +16,14 @@ use Rattle.message.specs.Text.{valueAt}
 use Rattle.message.specs.Limits.{Limits}
 use Rattle.message.specs.Elements.{part, isKnown, endsTag, Quoted, quotedAt, freshAt, attributesAt}
 use Rattle.message.specs.Readable.{AttributesStand, TagStands, of-attribute, first}
-use Rattle.message.proofs.Laws.{cond-cases, or-false, has-lt, has-byte, one-yes, one-no, one-has, ends-more, ends-stop, ends-from, has-in}
+use Rattle.message.proofs.Laws.{cond-cases, or-false, has-lt, has-byte, one-yes, one-no, one-has, ends-more, ends-stop, ends-from, has-in, fails-byte}
+use Rattle.message.proofs.Runs.{ends-fails}
 use Rattle.message.proofs.Progress.{past-whole}
 use Rattle.message.proofs.Trees.{past-quoted, past-fresh}
 use Rattle.message.proofs.Automaton.{State, ground, inside, inTag, slash, attribute, attributeColon, quote, value, blanks, exact, Next, dead, goes, only, step, solid-equals, equals, stepBlanks, stepInTag, stepAttribute}
 use Rattle.message.proofs.Dues.{long, due, At}
 use Rattle.message.proofs.Going.{MarkedAt, Crowd, Roomy, Stuck, crowded, Outcome, outcome-then, outcome-as, outcome-one, at-has, at-ends}
-use Rattle.message.proofs.Acting.{ends-fails, fails-byte, stuck-here, Acts, acts-has, acts-stuck, acts-one, acts-as, acts-at, acts-blanks}
+use Rattle.message.proofs.Acting.{stuck-here, Acts, acts-has, acts-stuck, acts-one, acts-as, acts-at, acts-blanks}
 use Rattle.message.proofs.GoingQuotes.{Quoting, going-opened}
 use Rattle.message.proofs.GoingText.{going-value}
 use Rattle.message.proofs.GoingNames.{colon-no-name, part-one, Naming, Before, NameRead, NameBefore, going-name}

@@ -12,14 +12,10 @@ use Rattle.message.specs.Reading.{is, byteAt, has, one, wordAt}
 use Rattle.message.specs.Characters.{Character, later, secondOfThree, thirdOfThree, secondOfFour, joined, twoAt, threeAt, lastTwoAt, fourAt, longAt, isDigit, digitOf, digitsAt, closes, numberedAt, standsAt, predefinedAt, referenceAt}
 use Rattle.message.specs.Text.{specialAt}
 use Rattle.message.specs.Limits.{Limits}
-use Rattle.message.proofs.Laws.{cond-cases, has-in, has-lt, has-byte, one-yes}
+use Rattle.message.proofs.Laws.{cond-cases, has-in, has-lt, has-byte, one-yes, fails-byte}
 use Rattle.message.proofs.Automaton.{laterTest, secondFour, thirdThree, exactly, State, expect, second, ampersand, ampersandA, hash, firstDigit, number, Next, dead, goes, step, only, expecting, leads, special, base, numbered, digit}
 use Rattle.message.proofs.Dues.{mayEnd, due, At}
 use Rattle.message.proofs.Going.{dies, cut, Outcome, outcome-then, at-has, outcome-one, outcome-word}
-
--- a byte that does not pass a test stands there
-pub byte-fails : (test : ℕ → Bool) (s : List ℕ) (i : ℕ) → has test s i ≡ false → i < length s → test (byteAt s i) ≡ false
-byte-fails test s i h inside = sym (has-in test s i inside) ∙ h
 
 module _ (l : Limits) (s : List ℕ) where
   -- ---- one byte, which is the only way on
@@ -31,7 +27,7 @@ module _ (l : Limits) (s : List ℕ) where
   pub going-one : {st : State} (next : State) (test : ℕ → Bool) (i : ℕ) → Steps st i (only (test (byteAt s i)) next) → Outcome l s (λ e. At l s next e × (e ≡ i + 1)) (one test s i)
   going-one next test i here =
       outcome-one l s next test i (here .0) (here .1) (λ h. here .2)
-      (λ h. here .3 (has-lt test s i h) ∙ rw (has-byte test s i h)) (λ inside h. here .3 inside ∙ rw (byte-fails test s i h inside))
+      (λ h. here .3 (has-lt test s i h) ∙ rw (has-byte test s i h)) (λ inside h. here .3 inside ∙ rw (fails-byte test s i inside h))
 
   -- ---- characters of more than one byte
 
@@ -86,10 +82,10 @@ module _ (l : Limits) (s : List ℕ) where
       let inside = has-lt (between 224 239) s i u in
       going-three k i
       (at-has l s (between 224 239) i here u free
-      (steps inside ∙ rw (byte-fails (between 194 223) s i t inside, has-byte (between 224 239) s i u))))
+      (steps inside ∙ rw (fails-byte (between 194 223) s i inside t, has-byte (between 224 239) s i u))))
       (λ u.
       going-four k i
-      (here, goes-on, free, λ inside. steps inside ∙ rw (byte-fails (between 194 223) s i t inside, byte-fails (between 224 239) s i u inside))))
+      (here, goes-on, free, λ inside. steps inside ∙ rw (fails-byte (between 194 223) s i inside t, fails-byte (between 224 239) s i inside u))))
 
   -- ---- references by a number
 
@@ -140,7 +136,7 @@ module _ (l : Limits) (s : List ℕ) where
   there {st = st} test next i here =
       cond-cases (Outcome l s (λ e. has test s i ≡ true)) (has test s i) (λ t. t) (λ t.
       elim (decLt i (length s)) [
-        | yes inside ↦ (st, here .0, dies inside (here .3 inside ∙ rw (byte-fails test s i t inside)))
+        | yes inside ↦ (st, here .0, dies inside (here .3 inside ∙ rw (fails-byte test s i inside t)))
         | no out ↦ (st, here .0, cut (omega arith) (here .1))
       ])
 
@@ -153,7 +149,7 @@ module _ (l : Limits) (s : List ℕ) where
       (going-digit hex k (length s) 0 i (here .0, here .1, here .2, λ inside. here .3 inside ∙ rw (has-byte digits s i t)) t
       (λ m h. going-digits hex k (length s) m (i + 1) (omega arith) h)) (λ c r h.
       outcome-then l s (λ e. At l s k e × (e ≡ c .end + 1)) (Behind k) _ (one (closes (c .code)) s (c .end))
-      (going-one k (closes (c .code)) (c .end) (h .0 .1, refl, refl, λ inside. rw (byte-fails digits s (c .end) (h .1) inside))) (λ e u g. g .0)))
+      (going-one k (closes (c .code)) (c .end) (h .0 .1, refl, refl, λ inside. rw (fails-byte digits s (c .end) inside (h .1)))) (λ e u g. g .0)))
 
   -- ---- references by a name
 
@@ -167,23 +163,23 @@ module _ (l : Limits) (s : List ℕ) where
   going-predefined : (k : State) (i : ℕ) → At l s (ampersand k) i → has (is 35) s i ≡ false → Outcome l s (Behind k) (predefinedAt s i)
   unfolding predefinedAt
   going-predefined k i here sharp =
-      let not-sharp = byte-fails (is 35) s i sharp in
+      let not-sharp : (i < length s → is 35 (byteAt s i) ≡ false) = (λ inside. fails-byte (is 35) s i inside sharp) in
       cond-cases (Outcome l s (Behind k)) (has (is 108) s i)
       (λ t. going-stands k 108 (116 ∷ 59 ∷ []) 60 i (here, refl, refl, λ inside. rw (not-sharp inside, has-byte (is 108) s i t))) (λ t.
-      let not-l = byte-fails (is 108) s i t in
+      let not-l : (i < length s → is 108 (byteAt s i) ≡ false) = (λ inside. fails-byte (is 108) s i inside t) in
       cond-cases (Outcome l s (Behind k)) (has (is 103) s i)
       (λ u. going-stands k 103 (116 ∷ 59 ∷ []) 62 i (here, refl, refl, λ inside. rw (not-sharp inside, not-l inside, has-byte (is 103) s i u))) (λ u.
-      let not-g = byte-fails (is 103) s i u in
+      let not-g : (i < length s → is 103 (byteAt s i) ≡ false) = (λ inside. fails-byte (is 103) s i inside u) in
       cond-cases (Outcome l s (Behind k)) (has (is 113) s i)
       (λ v.
       going-stands k 113 (117 ∷ 111 ∷ 116 ∷ 59 ∷ []) 34 i
       (here, refl, refl, λ inside. rw (not-sharp inside, not-l inside, not-g inside, has-byte (is 113) s i v))) (λ v.
-      let not-q = byte-fails (is 113) s i v in
+      let not-q : (i < length s → is 113 (byteAt s i) ≡ false) = (λ inside. fails-byte (is 113) s i inside v) in
       outcome-then l s (λ j. At l s (ampersandA k) j × (j ≡ i + 1)) (Behind k) _ (one (is 97) s i)
       (going-one (ampersandA k) (is 97) i (here, refl, refl, λ inside. rw (not-sharp inside, not-l inside, not-g inside, not-q inside))) (λ j q h.
       cond-cases (Outcome l s (Behind k)) (has (is 109) s j)
       (λ w. going-stands k 109 (112 ∷ 59 ∷ []) 38 j (h .0, refl, refl, λ inside. rw (has-byte (is 109) s j w)))
-      (λ w. going-stands k 112 (111 ∷ 115 ∷ 59 ∷ []) 39 j (h .0, refl, refl, λ inside. rw (byte-fails (is 109) s j w inside)))))))
+      (λ w. going-stands k 112 (111 ∷ 115 ∷ 59 ∷ []) 39 j (h .0, refl, refl, λ inside. rw (fails-byte (is 109) s j inside w)))))))
 
   -- ---- references
 
@@ -196,7 +192,7 @@ module _ (l : Limits) (s : List ℕ) where
       (λ u.
       let from : At l s (firstDigit true k) (i + 1 + 1) = at-has l s (is 120) (i + 1) behind u refl (rw (has-byte (is 120) s (i + 1) u)) in
       going-numbered true k (i + 2) (subst (At l s (firstDigit true k)) (omega arith) from, refl, refl, λ inside. refl))
-      (λ u. going-numbered false k (i + 1) (behind, refl, refl, λ inside. rw (byte-fails (is 120) s (i + 1) u inside)))) (λ t.
+      (λ u. going-numbered false k (i + 1) (behind, refl, refl, λ inside. rw (fails-byte (is 120) s (i + 1) inside u)))) (λ t.
       going-predefined k i here t)
 
   pub going-special : (k : State) {st : State} (i : ℕ) → At l s st i → mayEnd st ≡ false → due l s st i ≡ false → (i < length s → step st (byteAt s i) ≡ special k (byteAt s i)) → Outcome l s (λ c. At l s k (c .end)) (specialAt s i)
@@ -206,4 +202,4 @@ module _ (l : Limits) (s : List ℕ) where
       (λ t.
       rw (one-yes (is 38) s i t)
       (going-referenced k (i + 1) (at-has l s (is 38) i here t free (steps (has-lt (is 38) s i t) ∙ rw (has-byte (is 38) s i t)))))
-      (λ t. going-long k i here goes-on free (λ inside. steps inside ∙ rw (byte-fails (is 38) s i t inside)))
+      (λ t. going-long k i here goes-on free (λ inside. steps inside ∙ rw (fails-byte (is 38) s i inside t)))

@@ -14,13 +14,14 @@ use Rattle.message.specs.Markup as markup
 use Rattle.message.specs.Markup.{declares, utf8At, encodingAt, declarationAt}
 use Rattle.message.specs.Elements.{declaredOf}
 use Rattle.message.specs.Limits.{Limits}
-use Rattle.message.proofs.Laws.{cond-cases, has-in, has-lt, has-byte, one-yes, one-no, one-has, ends-more, ends-stop, both-first, both-second}
+use Rattle.message.proofs.Laws.{cond-cases, has-in, has-lt, has-byte, one-yes, one-no, one-has, ends-more, ends-stop, both-first, both-second, fails-byte}
+use Rattle.message.proofs.Runs.{ends-fails}
 use Rattle.message.proofs.Facts.{whole-is}
 use Rattle.message.proofs.Words.{word-first, word-ends}
 use Rattle.message.proofs.Automaton.{exact, exactly, first, before, State, ground, opened, expect, blanks, declared, versionQuote, encodingQuote, versioned, encodingName, Next, dead, goes, step, expecting, solid-equals, solid-question, solid-v, equals, versionWord, encodingWord, declaredEnd}
 use Rattle.message.proofs.Dues.{due, At}
 use Rattle.message.proofs.Going.{Stuck, Outcome, outcome-then, outcome-as, outcome-one, outcome-expect, outcome-word, at-has, at-ends}
-use Rattle.message.proofs.Acting.{ends-fails, fails-byte, stuck-here, Acts, acts-at}
+use Rattle.message.proofs.Acting.{stuck-here, Acts, acts-at}
 use Rattle.message.proofs.GoingQuotes.{Quoting, Opened, going-opened, going-blanks-word}
 use Rattle.message.proofs.GoingMarkup.{other-byte, byte-test, and-none}
 use Rattle.message.proofs.Ways.{at-within}

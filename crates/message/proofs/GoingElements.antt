@@ -16,7 +16,7 @@ use Rattle.message.specs.Limits.{Limits}
 use Rattle.message.specs.Elements.{part, Element, Start, Content, freeAt, startAt, endTagAt, contentAt, restAt, elementAt, endAt, declaredOf, rootAt, documentAt}
 use Rattle.message.specs.Elements.Elements.{none}
 use Rattle.message.specs.Readable.{of-end}
-use Rattle.message.proofs.Laws.{cond-cases, has-lt, has-byte, and-true}
+use Rattle.message.proofs.Laws.{cond-cases, has-lt, has-byte, and-true, fails-byte}
 use Rattle.message.proofs.Progress.{past-whole}
 use Rattle.message.proofs.MarkupLoop.{past-bang}
 use Rattle.message.proofs.Trees.{text-whole, free-whole, element-on}
@@ -25,7 +25,7 @@ use Rattle.message.proofs.Shapes.{Shape, name-shape}
 use Rattle.message.proofs.Automaton.{Ground, first, before, behind, inside, State, ground, opened, Next, dead, goes, step, after, closing, betweenTags}
 use Rattle.message.proofs.Dues.{isBehind, isFirst, depth, due, At, stateAt}
 use Rattle.message.proofs.Going.{opens, dies, Outcome, outcome-then, outcome-as, at-has}
-use Rattle.message.proofs.Acting.{fails-byte, stuck-here}
+use Rattle.message.proofs.Acting.{stuck-here}
 use Rattle.message.proofs.GoingText.{Safe, going-text}
 use Rattle.message.proofs.GoingMarkup.{other-byte, byte-test, and-none, going-bang, Outer, Around, going-around}
 use Rattle.message.proofs.GoingDeclaration.{going-declaration}

@@ -14,7 +14,7 @@ use Rattle.message.specs.Names.{Named, shortAt, partAt, nameAt}
 use Rattle.message.specs.Limits.{Limits}
 use Rattle.message.specs.Elements.{part, endPartAt, endNameAt, endTagAt}
 use Rattle.message.specs.Readable.{FirstPart, PartStands, first, second}
-use Rattle.message.proofs.Laws.{cond-cases, cond-true, cond-false, has-in, has-out, has-lt, has-byte, one-yes, one-no, one-has, ends-more, ends-stop, ends-from, ends-le}
+use Rattle.message.proofs.Laws.{cond-cases, cond-true, cond-false, has-in, has-out, has-lt, has-byte, one-yes, one-no, one-has, ends-more, ends-stop, ends-from, ends-le, fails-byte}
 use Rattle.message.proofs.Trees.{whole-same}
 use Rattle.message.proofs.Parts.{part-some, part-none, part-parted}
 use Rattle.message.proofs.Bytes.{other-than, colon-no-name}
@@ -24,7 +24,7 @@ use Rattle.message.proofs.Shapes.{Shape, single, double}
 use Rattle.message.proofs.Automaton.{State, close, blanks, exact, Next, dead, goes, only, step, after, closing, solid-greater}
 use Rattle.message.proofs.Dues.{long, due, At}
 use Rattle.message.proofs.Going.{MarkedAt, Part, Stuck, longs, Outcome, outcome-then, outcome-as, outcome-one, at-has, at-ends}
-use Rattle.message.proofs.Acting.{fails-byte, stuck-here}
+use Rattle.message.proofs.Acting.{stuck-here}
 
 -- all bytes of a part are bytes of names
 abbrev pub AllName : List ℕ → Type 0

@@ -14,12 +14,12 @@ use Rattle.message.specs.Text.{commentAt}
 use Rattle.message.specs.Markup.{doctype, cdata, hyphens, opensAt, bangAt, aroundAt, declares}
 use Rattle.message.specs.Limits.{Limits}
 use Rattle.message.proofs.Laws.{cond-cases, and-true, has-in, has-lt, has-byte, one-yes, ends-more, ends-stop, ends-from, both-first, both-second}
+use Rattle.message.proofs.Runs.{ends-fails}
 use Rattle.message.proofs.Progress.{past-whole}
 use Rattle.message.proofs.MarkupLoop.{past-bang}
 use Rattle.message.proofs.Automaton.{Ground, first, before, behind, inside, State, ground, opened, note, Next, goes, step, rest, comment}
 use Rattle.message.proofs.Dues.{isBehind, isFirst, depth, opening, due, At}
 use Rattle.message.proofs.Going.{opens, Outcome, outcome-then, outcome-as, outcome-word, at-has, at-ends}
-use Rattle.message.proofs.Acting.{ends-fails}
 use Rattle.message.proofs.GoingText.{going-comment}
 use Rattle.message.proofs.Ways.{at-within}
 

@@ -16,11 +16,12 @@ use Rattle.message.specs.Names.{Named, shortAt, partAt, nameAt}
 use Rattle.message.specs.Limits.{Limits}
 use Rattle.message.specs.Elements.{part}
 use Rattle.message.specs.Readable.{FirstPart, PartStands, first, second}
-use Rattle.message.proofs.Laws.{cond-cases, has-in, has-out, has-lt, has-byte, one-yes, one-no, ends-more, ends-stop, ends-from}
+use Rattle.message.proofs.Laws.{cond-cases, has-in, has-out, has-lt, has-byte, one-yes, one-no, ends-more, ends-stop, ends-from, fails-byte}
+use Rattle.message.proofs.Runs.{ends-fails}
 use Rattle.message.proofs.Automaton.{State, Next, dead, goes, only, step}
 use Rattle.message.proofs.Dues.{mayEnd, long, longPart, due, At}
 use Rattle.message.proofs.Going.{MarkedAt, Part, Roomy, Stuck, longs, Outcome, outcome-then, at-has}
-use Rattle.message.proofs.Acting.{ends-fails, fails-byte, stuck-here, Acts, acts-at, acts-one}
+use Rattle.message.proofs.Acting.{stuck-here, Acts, acts-at, acts-one}
 
 -- a part of the message and one byte more
 pub part-more : (s : List ℕ) (b i : ℕ) → b ≤ i → i < length s → part s b (i + 1) ≡ part s b i ++ (byteAt s i ∷ [])

@@ -15,11 +15,11 @@ use Rattle.message.specs.Limits.{Limits}
 use Rattle.message.specs.Elements.{part, Element, Start, endsTag, startEndAt, tooDeepAt, attributesAt, withNameAt, startAt}
 use Rattle.message.specs.Readable.{of-start}
 use Rattle.message.specs.Readable as readable
-use Rattle.message.proofs.Laws.{cond-cases, has-second, has-in, has-lt, has-byte, one-yes, one-no}
+use Rattle.message.proofs.Laws.{cond-cases, has-second, has-in, has-lt, has-byte, one-yes, one-no, fails-byte}
 use Rattle.message.proofs.Automaton.{Ground, first, before, behind, inside, State, ground, opened, name, colon, inTag, slash, Next, dead, goes, step, after, named, tag, betweenTags, stepInTag}
 use Rattle.message.proofs.Dues.{isBehind, depth, opening, long, due, At}
 use Rattle.message.proofs.Going.{deep, Stuck, Outcome, outcome-then, outcome-as, outcome-one, at-has}
-use Rattle.message.proofs.Acting.{fails-byte, stuck-here, Acts, acts-at, acts-as}
+use Rattle.message.proofs.Acting.{stuck-here, Acts, acts-at, acts-as}
 use Rattle.message.proofs.GoingNames.{colon-no-name, part-one, Naming, NameRead, NameBefore, going-name}
 use Rattle.message.proofs.GoingAttributes.{Tagged, EndsAt, going-attributes}
 use Rattle.message.proofs.GoingMarkup.{and-none}

@@ -12,12 +12,13 @@ use Rattle.message.specs.Reading.{is, isQuote, byteAt, has, one, ends}
 use Rattle.message.specs.Text.{specialAt, bracketAt, beyondPlainInAt, beyondPlainAt, beyondNoteAt, hyphensAt, textAt, valueAt, commentAt}
 use Rattle.message.specs.Characters.{longAt}
 use Rattle.message.specs.Limits.{Limits}
-use Rattle.message.proofs.Laws.{cond-cases, both-first, both-second, has-in, has-lt, has-byte, has-out, ends-from, ends-more, ends-stop}
+use Rattle.message.proofs.Laws.{cond-cases, both-first, both-second, has-in, has-lt, has-byte, has-out, ends-from, ends-more, ends-stop, fails-byte}
+use Rattle.message.proofs.Runs.{ends-fails}
 use Rattle.message.proofs.Progress.{beyond-plain-in-on, beyond-plain-on, beyond-note-on}
 use Rattle.message.proofs.Automaton.{inside, State, ground, note, value, dead, goes, step, leads, special, brackets}
 use Rattle.message.proofs.Dues.{due, At}
 use Rattle.message.proofs.Going.{dies, cut, Stuck, Outcome, outcome-then, outcome-as, at-has, at-ends}
-use Rattle.message.proofs.GoingCharacters.{byte-fails, Steps, Behind, going-one, going-long, going-special}
+use Rattle.message.proofs.GoingCharacters.{Steps, Behind, going-one, going-long, going-special}
 
 -- ---- plain bytes
 
@@ -63,19 +64,6 @@ note-plain x h = go (is 45 x) refl
     go true e = absurd (true≢false (sym (rw e at other)))
     go false e = e
 
--- no byte that passes the test stands behind a run of such
-module _ (test : ℕ → Bool) (s : List ℕ) where
-  none-turn : (i : ℕ) (t : Bool) → has test s i ≡ t → (has test s i ≡ true → has test s (ends test s (i + 1)) ≡ false) → has test s (ends test s i) ≡ false
-  none-turn i true h next = rw (ends-more test s i h) (next h)
-  none-turn i false h next = rw (ends-stop test s i h) h
-
-  none-on : (n i : ℕ) → length s ≤ n + i → has test s (ends test s i) ≡ false
-  none-on zero i enough = let h = has-out test s i (omega arith) in rw (ends-stop test s i h) h
-  none-on (suc n) i enough = none-turn i (has test s i) refl (λ h. none-on n (i + 1) (omega arith))
-
-  pub ends-none : (i : ℕ) → has test s (ends test s i) ≡ false
-  ends-none i = none-on (length s) i (omega arith)
-
 module _ (l : Limits) (s : List ℕ) where
   -- ---- what is no plain text, up to the place behind it
 
@@ -87,7 +75,7 @@ module _ (l : Limits) (s : List ℕ) where
       let below = has-lt (isText classOf) s i t in
       at-has l s (isText classOf) i (here .0) t (here .2) (here .3 below ∙ rw (has-byte (isText classOf) s i t))) (λ t.
       outcome-then l s (Behind l s k) (λ e. At l s k e) _ (specialAt s i)
-      (going-special l s k i (here .0) (here .1) (here .2) (λ below. here .3 below ∙ rw (byte-fails (isText classOf) s i t below))) (λ c q h. h))
+      (going-special l s k i (here .0) (here .1) (here .2) (λ below. here .3 below ∙ rw (fails-byte (isText classOf) s i below t))) (λ c q h. h))
 
   -- ---- values
 
@@ -108,7 +96,7 @@ module _ (l : Limits) (s : List ℕ) where
       let further : i ≤ stop = ends-from (isPlain classOf) s i in
       cond-cases (Outcome l s (Quoted q st)) (has (is q) s stop) (λ t. (there, t)) (λ t.
       outcome-then l s (λ e. At l s st e) (Quoted q st) (valueAt classOf fuel q s) (beyondPlainInAt classOf s stop)
-      (going-beyond-in st stop (there, refl, refl, λ below. rw (byte-fails (is q) s stop t below))) (λ e w h.
+      (going-beyond-in st stop (there, refl, refl, λ below. rw (fails-byte (is q) s stop below t))) (λ e w h.
       going-value q quotes n seen o fuel e (omega (arith, beyond-plain-in-on s stop classOf e w)) h))
 
   -- ---- text between tags
@@ -136,11 +124,11 @@ module _ (l : Limits) (s : List ℕ) where
     text-open : (b i : ℕ) → Safe b i → i < length s → (eqb b 2 && is 62 (byteAt s i)) ≡ false
     text-open zero i safe below = refl
     text-open (suc zero) i safe below = refl
-    text-open (suc (suc b)) i safe below = rw (byte-fails (is 62) s i (safe .1) below) (and-false (eqb (suc (suc b)) 2))
+    text-open (suc (suc b)) i safe below = rw (fails-byte (is 62) s i below (safe .1)) (and-false (eqb (suc (suc b)) 2))
 
     -- neither `<` nor `]`
     text-step : (b i : ℕ) → Safe b i → has (is 60) s i ≡ false → has (is 93) s i ≡ false → i < length s → step (within b) (byteAt s i) ≡ cond (isText classOf (byteAt s i)) (goes (within 0)) (special (within 0) (byteAt s i))
-    text-step b i safe h h′ below = rw (byte-fails (is 60) s i h below, byte-fails (is 93) s i h′ below, text-open b i safe below)
+    text-step b i safe h h′ below = rw (fails-byte (is 60) s i below h, fails-byte (is 93) s i below h′, text-open b i safe below)
 
     -- the text goes on at the place
     abbrev Text : ℕ → Type 0
@@ -237,8 +225,8 @@ module _ (l : Limits) (s : List ℕ) where
 
     -- no `-`
     note-step : (h i : ℕ) → Quiet h i → has (is 45) s i ≡ false → i < length s → step (note h k) (byteAt s i) ≡ cond (isPlainNote classOf (byteAt s i)) (goes (note 0 k)) (leads (note 0 k) (byteAt s i))
-    note-step zero i quiet none below = rw (byte-fails (is 45) s i none below)
-    note-step (suc zero) i quiet none below = rw (byte-fails (is 45) s i none below)
+    note-step zero i quiet none below = rw (fails-byte (is 45) s i below none)
+    note-step (suc zero) i quiet none below = rw (fails-byte (is 45) s i below none)
     note-step (suc (suc h)) i quiet none below = absurd quiet
 
     note-hyphen : (h i : ℕ) → Quiet h i → At l s (note h k) i → has (is 45) s i ≡ true → At l s (note 1 k) (i + 1)
@@ -281,7 +269,7 @@ module _ (l : Limits) (s : List ℕ) where
         cond-cases (Outcome l s Noted) (has (is 45) s i) (λ t. (1, rw t at single, note-hyphen (here .0) i (here .1) (here .2) t)) (λ t.
         outcome-then l s (Behind l s (note 0 k)) Noted _ (longAt s i)
         (going-long l s (note 0 k) i (here .2) refl refl
-        (λ below. note-step (here .0) i (here .1) t below ∙ rw (byte-fails (isPlainNote classOf) s i none below))) (λ c q h. (0, tt, h)))
+        (λ below. note-step (here .0) i (here .1) t below ∙ rw (fails-byte (isPlainNote classOf) s i below none))) (λ c q h. (0, tt, h)))
 
     note-loop : (fuel i : ℕ) → length s ≤ fuel + i → Noted i → Outcome l s (λ e. At l s k e) (commentAt classOf fuel s i)
     unfolding commentAt
@@ -292,7 +280,7 @@ module _ (l : Limits) (s : List ℕ) where
         let further : i ≤ stop = ends-from (isPlainNote classOf) s i in
         cond-cases (Outcome l s (λ e. At l s k e)) (hyphensAt s stop) (λ t. note-end stop there t) (λ t.
         outcome-then l s Noted (λ e. At l s k e) (commentAt classOf fuel s) (beyondNoteAt s stop)
-        (note-beyond stop there (ends-none (isPlainNote classOf) s i) t) (λ e w h.
+        (note-beyond stop there (ends-fails (isPlainNote classOf) s i) t) (λ e w h.
         note-loop fuel e (omega (arith, beyond-note-on s stop e w)) h))
 
   pub going-comment : (k : State) (fuel i : ℕ) → length s ≤ fuel + i → At l s (note 0 k) i → Outcome l s (λ e. At l s k e) (commentAt classOf fuel s i)

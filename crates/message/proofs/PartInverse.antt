@@ -14,10 +14,9 @@ use Rattle.message.specs.Reading.{is, byteAt, has, ends}
 use Rattle.message.specs.Limits.{Limits}
 use Rattle.message.specs.Readable.{MarkupMayBegin, FirstPart, of-start, of-end, of-attribute, PartStands}
 use Rattle.message.specs.Readable as readable
-use Rattle.message.proofs.Laws.{both-second, has-out, has-lt, has-byte, ends-more, ends-stop, ends-from}
+use Rattle.message.proofs.Laws.{both-second, has-out, has-lt, has-byte, ends-more, ends-stop, ends-from, fails-byte}
 use Rattle.message.proofs.Automaton.{Ground, first, before, behind, inside, State, ground, opened, name, colon, inTag, attribute, attributeColon, dead, goes, only, closing, step}
 use Rattle.message.proofs.Dues.{isBehind, long, due, At}
-use Rattle.message.proofs.Acting.{fails-byte}
 use Rattle.message.proofs.GoingNames.{colon-no-name}
 use Rattle.message.proofs.GoingStarts.{names}
 use Rattle.message.proofs.Sound.{Letter, name-letter, colon-letter}

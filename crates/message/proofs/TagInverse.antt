@@ -15,14 +15,13 @@ use Rattle.message.specs.Names.{Named, shortAt, partAt, nameAt}
 use Rattle.message.specs.Limits.{Limits}
 use Rattle.message.specs.Elements.{part, isKnown, endsTag}
 use Rattle.message.specs.Readable.{MarkupMayBegin, NameStands, AttributeStands, AttributesStand, TagStands}
-use Rattle.message.proofs.Laws.{went, and-true, has-lt, has-byte, one-yes, ends-more, ends-from}
+use Rattle.message.proofs.Laws.{went, and-true, has-lt, has-byte, one-yes, ends-more, ends-from, fails-byte}
 use Rattle.message.proofs.Progress.{past-whole}
 use Rattle.message.proofs.Trees.{past-name, past-quoted, whole-same}
 use Rattle.message.proofs.Facts.{then-whole}
 use Rattle.message.proofs.Automaton.{Ground, first, before, behind, inside, State, ground, opened, inTag, dead, goes, step}
 use Rattle.message.proofs.Dues.{isBehind, depth, opening, tooDeep, long, due, At}
 use Rattle.message.proofs.Going.{Outcome, at-has}
-use Rattle.message.proofs.Acting.{fails-byte}
 use Rattle.message.proofs.GoingMarkup.{byte-test}
 use Rattle.message.proofs.GoingNames.{Naming, NameRead, NameBefore, going-name}
 use Rattle.message.proofs.GoingAttributes.{or-both, Tagged, Fresh, spaced, going-fresh-name, going-quoted, next-tagged, end-no-start}
