@@ -12,6 +12,7 @@ use Rattle.message.specs.Reading.{is, isQuote}
 use Rattle.message.specs.Characters.{later, secondOfThree, thirdOfThree, secondOfFour, isDigit, digitOf, closes}
 use Rattle.message.specs.Elements.{isKnown}
 use Rattle.message.proofs.Laws.{between-yes}
+use Rattle.message.proofs.Bytes.{solid-equals, solid-greater, solid-question, solid-v}
 
 -- ---- bytes that have to come
 
@@ -112,23 +113,6 @@ pub data Next : Type 0 where
   goes : State → Next
 
 -- ---- a step
-
--- bytes that are no white space
-pub solid-equals : isSpace classOf 61 ≡ false
-unfolding classOf
-solid-equals = refl
-
-pub solid-greater : isSpace classOf 62 ≡ false
-unfolding classOf
-solid-greater = refl
-
-pub solid-question : isSpace classOf 63 ≡ false
-unfolding classOf
-solid-question = refl
-
-pub solid-v : isSpace classOf 118 ≡ false
-unfolding classOf
-solid-v = refl
 
 abbrev pub only : Bool → State → Next
 only t st = cond t (goes st) dead

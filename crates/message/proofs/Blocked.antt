@@ -8,6 +8,7 @@ use native.Mathlib.Omega.{arith}
 use lib.ListN.{length, take}
 use lib.Dec.{ltb, leb, eqb}
 use borrow.Author.Tests.{lt-ltb, le-leb}
+use Rattle.laws.proofs.Tests.{or-last}
 use Rattle.message.specs.Class.{classOf, isStart, isName, isSpace}
 use Rattle.message.specs.Reading.{is, byteAt, has, ends}
 use Rattle.message.specs.Reading as reading
@@ -19,7 +20,6 @@ use Rattle.message.proofs.Automaton.{Ground, first, before, behind, ins
 use Rattle.message.proofs.Automaton as automaton
 use Rattle.message.proofs.Dues as dues
 use Rattle.message.proofs.Dues.{isBehind, isFirst, depth, tooDeep, due, At}
-use Rattle.message.proofs.GoingMarkup.{or-last}
 use Rattle.message.proofs.Accepted.{goes-dead, steps-from, readable-ends, goes-continues, may-ground}
 use Rattle.message.proofs.Sound.{sane-at}
 use Rattle.message.proofs.Inverse.{open-depth}

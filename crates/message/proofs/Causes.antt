@@ -14,6 +14,7 @@ use Rattle.message.specs.Limits.{linkLimits}
 use Rattle.message.specs.Readable.{Readable, Continues, endTags, EachNameLike, Open, TagStands}
 use Rattle.message.specs.Due.{Due, dead, unfinished, level, attribute, opening, long}
 use Rattle.message.proofs.Laws.{has-lt, has-byte, both-second, ends-stop}
+use Rattle.message.proofs.Bytes.{other-than, start-no-space, slash-no-start, greater-no-start}
 use Rattle.message.proofs.Automaton.{Ground, first, before, behind, inside, State, ground, opened, inTag, Next, goes, step, steps}
 use Rattle.message.proofs.Automaton as automaton
 use Rattle.message.proofs.Dues.{isBehind, isFirst, depth, tooDeep, stateAt, At}
@@ -24,24 +25,8 @@ use Rattle.message.proofs.Sound.{Sane, sane-at}
 use Rattle.message.proofs.Spelling.{opening-stands}
 use Rattle.message.proofs.Ways.{steps-at, at-within}
 
--- ---- a byte that begins a name is no other of those that matter
-
-start-other : (b x : ℕ) → isStart classOf b ≡ false → isStart classOf x ≡ true → is b x ≡ false
-start-other b x other start = ne-eqb x b (λ e. true≢false (sym start ∙ ap (isStart classOf) e ∙ other))
-
-start-no-space : (x : ℕ) → isStart classOf x ≡ true → isSpace classOf x ≡ false
-start-no-space x start = ne-eqb (classOf x) 3 (λ e. omega (arith, eqb-true (classOf x) 5 start))
-
-slash-no-start : isStart classOf 47 ≡ false
-unfolding classOf
-slash-no-start = refl
-
-greater-no-start : isStart classOf 62 ≡ false
-unfolding classOf
-greater-no-start = refl
-
 pub in-tag-goes : (n : List ℕ) (seen o : List (List ℕ)) (x : ℕ) → isStart classOf x ≡ true → step (inTag true n seen o) x ≡ goes (automaton.attribute false (x ∷ []) n seen o)
-in-tag-goes n seen o x start = rw (start-no-space x start, start-other 47 x slash-no-start start, start-other 62 x greater-no-start start, start)
+in-tag-goes n seen o x start = rw (start-no-space x start, other-than (isStart classOf) 47 slash-no-start x start, other-than (isStart classOf) 62 greater-no-start x start, start)
 
 module _ (s : List ℕ) where
   abbrev Here : State → ℕ → Type 0

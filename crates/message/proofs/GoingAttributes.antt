@@ -7,6 +7,7 @@ use native.Mathlib.Omega.{arith}
 use lib.ListN.{length}
 use lib.Dec.{ltb, leb, eqb}
 use borrow.Author.Tests.{lt-leb, le-leb, ltb-true, ltb-false, eqb-true, ne-eqb}
+use Rattle.laws.proofs.Tests.{neither}
 use Rattle.message.specs.Class.{classOf, isStart, isName, isSpace}
 use Rattle.message.specs.Reading.{Reading, _>>=_, is, byteAt, has, one, ends, isQuote, equalsAt, openedAt}
 use Rattle.message.specs.Reading as reading
@@ -17,43 +18,24 @@ use Rattle.message.specs.Limits.{Limits}
 use Rattle.message.specs.Elements.{part, isKnown, endsTag, Quoted, quotedAt, freshAt, attributesAt}
 use Rattle.message.specs.Readable.{AttributesStand, TagStands, of-attribute, first}
 use Rattle.message.proofs.Laws.{cond-cases, or-false, has-lt, has-byte, one-yes, one-no, one-has, ends-more, ends-stop, ends-from, has-in, fails-byte}
-use Rattle.message.proofs.Runs.{ends-fails}
+use Rattle.message.proofs.Parts.{part-one}
+use Rattle.message.proofs.Bytes.{has-fails, solid-equals, space-no-start, end-no-start, colon-no-name}
+use Rattle.message.proofs.Runs.{ends-fails, byte-is}
 use Rattle.message.proofs.Progress.{past-whole}
 use Rattle.message.proofs.Trees.{past-quoted, past-fresh}
-use Rattle.message.proofs.Automaton.{State, ground, inside, inTag, slash, attribute, attributeColon, quote, value, blanks, exact, Next, dead, goes, only, step, solid-equals, equals, stepBlanks, stepInTag, stepAttribute}
+use Rattle.message.proofs.Automaton.{State, ground, inside, inTag, slash, attribute, attributeColon, quote, value, blanks, exact, Next, dead, goes, only, step, equals, stepBlanks, stepInTag, stepAttribute}
 use Rattle.message.proofs.Dues.{long, due, At}
 use Rattle.message.proofs.Going.{MarkedAt, Crowd, Roomy, Stuck, crowded, Outcome, outcome-then, outcome-as, outcome-one, at-has, at-ends}
 use Rattle.message.proofs.Acting.{stuck-here, Acts, acts-has, acts-stuck, acts-one, acts-as, acts-at, acts-blanks}
 use Rattle.message.proofs.GoingQuotes.{Quoting, going-opened}
 use Rattle.message.proofs.GoingText.{going-value}
-use Rattle.message.proofs.GoingNames.{colon-no-name, part-one, Naming, Before, NameRead, NameBefore, going-name}
-
-pub or-both : (t u : Bool) → (t || u) ≡ false → (t ≡ false) × (u ≡ false)
-or-both true u e = absurd (true≢false e)
-or-both false u e = (refl, e)
-
-greater-no-slash : (x : ℕ) → is 62 x ≡ true → is 47 x ≡ false
-greater-no-slash x h = rw (eqb-true x 62 h)
-
-pub end-no-start : (s : List ℕ) (i : ℕ) → has endsTag s i ≡ true → has (isStart classOf) s i ≡ false
-unfolding classOf
-end-no-start s i h = has-in (isStart classOf) s i (has-lt endsTag s i h) ∙ go (byteAt s i) (has-byte endsTag s i h) (eqb (byteAt s i) 47) refl
-  where
-    go : (x : ℕ) → endsTag x ≡ true → (t : Bool) → eqb x 47 ≡ t → isStart classOf x ≡ false
-    go x e true q = rw (eqb-true x 47 q)
-    go x e false q = rw (eqb-true x 62 (or-false _ q ∙ e))
+use Rattle.message.proofs.GoingNames.{Naming, Before, NameRead, NameBefore, going-name}
 
 inTag-seen : {b b′ : Bool} {m m′ : List ℕ} {seen seen′ o o′ : List (List ℕ)} → inTag b m seen o ≡ inTag b′ m′ seen′ o′ → seen ≡ seen′
 inTag-seen e = cc
 
 pub colon-no-tag : {a n : List ℕ} {seen o : List (List ℕ)} {b : Bool} {m : List ℕ} {seen′ o′ : List (List ℕ)} → attributeColon a n seen o ≡ inTag b m seen′ o′ → ⊥
 colon-no-tag e = let z : _≡_ {A = ℕ} 0 1 = cc in omega arith
-
--- white space begins no name
-space-no-start : (s : List ℕ) (i : ℕ) → has (isSpace classOf) s i ≡ true → has (isStart classOf) s i ≡ false
-space-no-start s i h =
-    has-in (isStart classOf) s i (has-lt (isSpace classOf) s i h)
-    ∙ ne-eqb (classOf (byteAt s i)) 5 (λ e. let z : _≡_ {A = ℕ} 3 5 = sym (eqb-true (classOf (byteAt s i)) 3 (has-byte (isSpace classOf) s i h)) ∙ e in omega arith)
 
 module _ (l : Limits) (s : List ℕ) where
   module _ (n : List ℕ) (o : List (List ℕ)) where
@@ -107,12 +89,12 @@ module _ (l : Limits) (s : List ℕ) where
       pub spaced : has (isSpace classOf) s at ≡ true → At l s (inTag true n seen o) p
       spaced h =
           rw (ends-more (isSpace classOf) s at h)
-          (at-ends l s (isSpace classOf) (λ i t. rw (space-no-start s i t)) (λ x t. rw t) (at + 1) (acts-has l s (tagged .acts) (isSpace classOf) h (rw (has-byte (isSpace classOf) s at h))))
+          (at-ends l s (isSpace classOf) (λ i t. rw (has-fails (isSpace classOf) (isStart classOf) space-no-start s i t)) (λ x t. rw t) (at + 1) (acts-has l s (tagged .acts) (isSpace classOf) h (rw (has-byte (isSpace classOf) s at h))))
 
       -- Neither white space nor the tag's end stands there: only a name may begin, and only behind white space.
       module _ (going-on : has endsTag s p ≡ false) where
         no-end : p < length s → (is 47 (byteAt s p) ≡ false) × (is 62 (byteAt s p) ≡ false)
-        no-end within = or-both (is 47 (byteAt s p)) (is 62 (byteAt s p)) (fails-byte endsTag s p within going-on)
+        no-end within = neither (is 47 (byteAt s p)) (is 62 (byteAt s p)) (fails-byte endsTag s p within going-on)
 
         dies-at : (b : Bool) → p < length s → (b && isStart classOf (byteAt s p)) ≡ false → stepInTag b n seen o (byteAt s p) ≡ dead
         dies-at b within h = rw (solid within, no-end within .0, no-end within .1, h)
@@ -211,7 +193,7 @@ module _ (l : Limits) (s : List ℕ) where
     ends-there b seen p acts solid h = record {
       ends-tag = h;
       empties = λ t. acts-has l s acts (is 47) t (rw (fails-byte (isSpace classOf) s p (has-lt (is 47) s p t) solid, has-byte (is 47) s p t));
-      fills = λ t. acts-has l s acts (is 62) t (rw (fails-byte (isSpace classOf) s p (has-lt (is 62) s p t) solid, greater-no-slash (byteAt s p) (has-byte (is 62) s p t), has-byte (is 62) s p t));
+      fills = λ t. acts-has l s acts (is 62) t (rw (fails-byte (isSpace classOf) s p (has-lt (is 62) s p t) solid, ap (is 47) (byte-is 62 s p t), has-byte (is 62) s p t));
     }
 
     module _ (seen : List (List ℕ)) (at : ℕ) (tagged : Tagged seen at) where
@@ -222,7 +204,7 @@ module _ (l : Limits) (s : List ℕ) where
           p = ends (isSpace classOf) s at
 
           go : (t : Bool) → has (isSpace classOf) s at ≡ t → EndsAt p
-          go true e = ends-there true seen p (acts-at l s (inTag true n seen o) p (spaced seen at tagged e) refl (rw (end-no-start s p h))) (ends-fails (isSpace classOf) s at) h
+          go true e = ends-there true seen p (acts-at l s (inTag true n seen o) p (spaced seen at tagged e) refl (rw (has-fails endsTag (isStart classOf) end-no-start s p h))) (ends-fails (isSpace classOf) s at) h
           go false e = ends-there false seen p (subst (Acts l s (stepInTag false n seen o)) (sym (ends-stop (isSpace classOf) s at e)) (tagged .acts)) (ends-fails (isSpace classOf) s at) h
 
       -- behind one more

@@ -1,7 +1,7 @@
 -- The machine reads the declaration as `declarationAt` does. Assumes nothing.
 use Prim.Native.Nat.{ℕ, _+_, _-_, _<_, _≤_}
 use mathlib.Core.Path.{_≡_, refl, sym, _∙_, ap, subst}
-use mathlib.Core.Bool.{Bool, true, false, cond, _&&_, true≢false}
+use mathlib.Core.Bool.{Bool, true, false, cond, _&&_, true≢false, and-false}
 use mathlib.Core.List.{List, [], _∷_}
 use native.Mathlib.Omega.{arith}
 use lib.ListN.{length}
@@ -15,20 +15,16 @@ use Rattle.message.specs.Markup.{declares, utf8At, encodingAt, declarati
 use Rattle.message.specs.Elements.{declaredOf}
 use Rattle.message.specs.Limits.{Limits}
 use Rattle.message.proofs.Laws.{cond-cases, has-in, has-lt, has-byte, one-yes, one-no, one-has, ends-more, ends-stop, both-first, both-second, fails-byte}
-use Rattle.message.proofs.Runs.{ends-fails}
+use Rattle.message.proofs.Bytes.{question-no-start, solid-question, solid-v}
+use Rattle.message.proofs.Runs.{ends-fails, byte-is, has-known}
 use Rattle.message.proofs.Facts.{whole-is}
 use Rattle.message.proofs.Words.{word-first, word-ends}
-use Rattle.message.proofs.Automaton.{exact, exactly, first, before, State, ground, opened, expect, blanks, declared, versionQuote, encodingQuote, versioned, encodingName, Next, dead, goes, step, expecting, solid-equals, solid-question, solid-v, equals, versionWord, encodingWord, declaredEnd}
+use Rattle.message.proofs.Automaton.{exact, exactly, first, before, State, ground, opened, expect, blanks, declared, versionQuote, encodingQuote, versioned, encodingName, Next, dead, goes, step, expecting, equals, versionWord, encodingWord, declaredEnd}
 use Rattle.message.proofs.Dues.{due, At}
 use Rattle.message.proofs.Going.{Stuck, Outcome, outcome-then, outcome-as, outcome-one, outcome-expect, outcome-word, at-has, at-ends}
 use Rattle.message.proofs.Acting.{stuck-here, Acts, acts-at}
 use Rattle.message.proofs.GoingQuotes.{Quoting, Opened, going-opened, going-blanks-word}
-use Rattle.message.proofs.GoingMarkup.{other-byte, byte-test, and-none}
 use Rattle.message.proofs.Ways.{at-within}
-
-pub question-no-start : isStart classOf 63 ≡ false
-unfolding classOf
-question-no-start = refl
 
 module _ (l : Limits) (s : List ℕ) where
   -- ---- up to the version's word
@@ -44,16 +40,13 @@ module _ (l : Limits) (s : List ℕ) where
         let c = word-first s 120 (109 ∷ 108 ∷ []) 2 (spells .0) (b .1) in
         let d = word-first s 109 (108 ∷ []) 3 (spells .0) (c .1) in
         let e = word-first s 108 [] 4 (spells .0) (d .1) in
-        let free : due l s (ground first) 0 ≡ false = rw (a .0, other-byte s 63 33 1 refl (b .0), b .0, declaring, byte-test s 63 1 (isStart classOf) question-no-start (b .0)) (and-none (leb (l .levels) 0 && true)) in
-        let free′ : due l s (opened first) 1 ≡ false = rw (byte-test s 63 1 (isStart classOf) question-no-start (b .0)) in
+        let free : due l s (ground first) 0 ≡ false = rw (a .0, has-known 63 s 1 (b .0) (is 33), b .0, declaring, has-known 63 s 1 (b .0) (isStart classOf) ∙ question-no-start) (and-false (leb (l .levels) 0 && true)) in
+        let free′ : due l s (opened first) 1 ≡ false = rw (has-known 63 s 1 (b .0) (isStart classOf) ∙ question-no-start) in
         let at-1 : At l s (opened first) 1 = at-has l s (is 60) 0 here (a .0) free (rw (has-byte (is 60) s 0 (a .0))) in
-        let at-2 : At l s (expect (exact 120) (exactly (109 ∷ 108 ∷ [])) declared) 2 = at-has l s (is 63) 1 at-1 (b .0) free′ (rw (other 63 33 1 refl (b .0), has-byte (is 63) s 1 (b .0))) in
+        let at-2 : At l s (expect (exact 120) (exactly (109 ∷ 108 ∷ [])) declared) 2 = at-has l s (is 63) 1 at-1 (b .0) free′ (rw (ap (is 33) (byte-is 63 s 1 (b .0)), has-byte (is 63) s 1 (b .0))) in
         let at-3 : At l s (expect (exact 109) (exactly (108 ∷ [])) declared) 3 = at-has l s (is 120) 2 at-2 (c .0) refl (rw (has-byte (is 120) s 2 (c .0))) in
         let at-4 : At l s (expect (exact 108) [] declared) 4 = at-has l s (is 109) 3 at-3 (d .0) refl (rw (has-byte (is 109) s 3 (d .0))) in
         at-has l s (is 108) 4 at-4 (e .0) refl (rw (has-byte (is 108) s 4 (e .0)))
-      where
-        other : (b c i : ℕ) → eqb b c ≡ false → has (is b) s i ≡ true → is c (byteAt s i) ≡ false
-        other b c i differ h = fails-byte (is c) s i (has-lt (is b) s i h) (other-byte s b c i differ h)
 
     going-version : Outcome l s (λ e. At l s (equals versionQuote) e) (wordAt markup.version s (ends (isSpace classOf) s 5))
     going-version =

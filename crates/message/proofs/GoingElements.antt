@@ -1,12 +1,13 @@
 -- The machine reads elements in elements, and whole messages, as `elementAt` and `documentAt` do. Assumes nothing.
 use Prim.Native.Nat.{ℕ, zero, suc, _+_, _<_, _≤_}
 use mathlib.Core.Path.{_≡_, refl, sym, _∙_, ap, subst}
-use mathlib.Core.Bool.{Bool, true, false, cond, not, _&&_, _||_, true≢false}
+use mathlib.Core.Bool.{Bool, true, false, cond, not, _&&_, _||_, true≢false, and-false}
 use mathlib.Core.List.{List, [], _∷_}
 use native.Mathlib.Omega.{arith}
 use lib.ListN.{length}
 use lib.Dec.{ltb, leb}
 use borrow.Author.Tests.{le-leb, lt-leb, le-ltb, ltb-true, ltb-false}
+use Rattle.laws.proofs.Tests.{and-right}
 use Rattle.message.specs.Class.{classOf, isStart, isSpace}
 use Rattle.message.specs.Reading.{Reading, _>>=_, is, byteAt, has, one, ends}
 use Rattle.message.specs.Reading.Reading.{whole, refused}
@@ -17,6 +18,8 @@ use Rattle.message.specs.Elements.{part, Element, Start, Content, freeAt
 use Rattle.message.specs.Elements.Elements.{none}
 use Rattle.message.specs.Readable.{of-end}
 use Rattle.message.proofs.Laws.{cond-cases, has-lt, has-byte, and-true, fails-byte}
+use Rattle.message.proofs.Runs.{has-known}
+use Rattle.message.proofs.Bytes.{slash-no-start}
 use Rattle.message.proofs.Progress.{past-whole}
 use Rattle.message.proofs.MarkupLoop.{past-bang}
 use Rattle.message.proofs.Trees.{text-whole, free-whole, element-on}
@@ -27,15 +30,11 @@ use Rattle.message.proofs.Dues.{isBehind, isFirst, depth, due, At, stat
 use Rattle.message.proofs.Going.{opens, dies, Outcome, outcome-then, outcome-as, at-has}
 use Rattle.message.proofs.Acting.{stuck-here}
 use Rattle.message.proofs.GoingText.{Safe, going-text}
-use Rattle.message.proofs.GoingMarkup.{other-byte, byte-test, and-none, going-bang, Outer, Around, going-around}
+use Rattle.message.proofs.GoingMarkup.{going-bang, Outer, Around, going-around}
 use Rattle.message.proofs.GoingDeclaration.{going-declaration}
 use Rattle.message.proofs.GoingStarts.{names, slashed, Place, Started, going-deep, going-start}
 use Rattle.message.proofs.GoingEndTags.{going-end-tag}
 use Rattle.message.proofs.Ways.{at-within}
-
-slash-no-start : isStart classOf 47 ≡ false
-unfolding classOf
-slash-no-start = refl
 
 module _ (l : Limits) (s : List ℕ) where
   -- ---- text and comments up to the next tag
@@ -76,8 +75,8 @@ module _ (l : Limits) (s : List ℕ) where
     going-closed : (i : ℕ) → AtTag v o i → has (is 47) s (i + 1) ≡ true → Outcome l s (λ e. At l s (after o) e) (endTagAt classOf s l (start .begin) (start .name) (i + 2))
     going-closed i at-tag h =
         let g : Ground = inside (at-tag .bracketed) v o in
-        let no-start : has (isStart classOf) s (i + 1) ≡ false = byte-test s 47 (i + 1) (isStart classOf) slash-no-start h in
-        let free : due l s (ground g) i ≡ false = rw (at-tag .tagged, at-tag .no-bang, at-tag .no-question, no-start) (and-none (leb (l .levels) (suc (length o)) && true)) in
+        let no-start : has (isStart classOf) s (i + 1) ≡ false = has-known 47 s (i + 1) h (isStart classOf) ∙ slash-no-start in
+        let free : due l s (ground g) i ≡ false = rw (at-tag .tagged, at-tag .no-bang, at-tag .no-question, no-start) (and-false (leb (l .levels) (suc (length o)) && true)) in
         let at-opened : At l s (opened g) (i + 1) = at-has l s (is 60) i (at-tag .here) (at-tag .tagged) free (rw (has-byte (is 60) s i (at-tag .tagged))) in
         let closes : step (opened g) (byteAt s (i + 1)) ≡ goes (closing v true o) = rw (fails-byte (is 33) s (i + 1) (has-lt (is 47) s (i + 1) h) (at-tag .no-bang), has-byte (is 47) s (i + 1) h) in
         let at-close : At l s (closing v true o) (i + 1 + 1) = at-has l s (is 47) (i + 1) at-opened h (rw no-start) closes in
@@ -142,10 +141,6 @@ module _ (l : Limits) (s : List ℕ) where
 
   -- ---- the root, and what stands around it
 
-  and-right : (t u : Bool) → (t && u) ≡ false → t ≡ true → u ≡ false
-  and-right true u e h = e
-  and-right false u e h = absurd (true≢false (sym h))
-
   root-place : (g : Ground) (i : ℕ) → Around l s g i → isBehind g ≡ false → (now : Ground) × (depth now ≡ 0) × (names now ≡ []) × Place l s now i
   root-place g i around front = go (around .now) (around .along .outer) (around .along .side ∙ front) (around .here)
     where
@@ -187,7 +182,7 @@ module _ (l : Limits) (s : List ℕ) where
 
       at-opened : has (is 60) s i ≡ true → At l s (opened behind) (i + 1)
       at-opened h =
-          at-has l s (is 60) i here h (rw (h, no-bang h, and-right (has (is 60) s i) (has (is 63) s (i + 1)) (around .no-question) h, and-none (leb (l .levels) 0))) (rw (has-byte (is 60) s i h))
+          at-has l s (is 60) i here h (rw (h, no-bang h, and-right (has (is 60) s i) (has (is 63) s (i + 1)) (around .no-question) h, and-false (leb (l .levels) 0))) (rw (has-byte (is 60) s i h))
 
       last : has (is 60) s i ≡ false → (t : Bool) → ltb i (length s) ≡ t → Outcome l s (λ e. At l s (ground behind) (length s)) (cond t (refused 9 i) (whole i))
       last h true e = (ground behind, here, dies (ltb-true i (length s) e) (rw (fails-byte (is 60) s i (ltb-true i (length s) e) h, fails-byte (isSpace classOf) s i (ltb-true i (length s) e) (around .solid))))

@@ -21,7 +21,7 @@ use Rattle.message.proofs.Bytes.{other-than, colon-no-name}
 use Rattle.message.proofs.Runs.{byte-is, has-known, ends-fails, start-in-name}
 use Rattle.message.proofs.Words.{word-first}
 use Rattle.message.proofs.Shapes.{Shape, single, double}
-use Rattle.message.proofs.Automaton.{State, close, blanks, exact, Next, dead, goes, only, step, after, closing, solid-greater}
+use Rattle.message.proofs.Automaton.{State, close, blanks, exact, Next, dead, goes, only, step, after, closing}
 use Rattle.message.proofs.Dues.{long, due, At}
 use Rattle.message.proofs.Going.{MarkedAt, Part, Stuck, longs, Outcome, outcome-then, outcome-as, outcome-one, at-has, at-ends}
 use Rattle.message.proofs.Acting.{stuck-here}

@@ -1,7 +1,7 @@
 -- The machine reads names as `nameAt` does, in a start tag and in an attribute alike. Assumes nothing.
 use Prim.Native.Nat.{ℕ, zero, suc, _+_, _-_, _<_, _≤_}
 use mathlib.Core.Path.{_≡_, refl, sym, _∙_, ap, subst}
-use mathlib.Core.Bool.{Bool, true, false, cond, not, _&&_}
+use mathlib.Core.Bool.{Bool, true, false, cond, not, _&&_, and-false}
 use mathlib.Core.List.{List, [], _∷_, _++_}
 use native.Mathlib.Numerals.{add-one}
 use native.Mathlib.Omega.{arith}
@@ -17,26 +17,12 @@ use Rattle.message.specs.Limits.{Limits}
 use Rattle.message.specs.Elements.{part}
 use Rattle.message.specs.Readable.{FirstPart, PartStands, first, second}
 use Rattle.message.proofs.Laws.{cond-cases, has-in, has-out, has-lt, has-byte, one-yes, one-no, ends-more, ends-stop, ends-from, fails-byte}
-use Rattle.message.proofs.Runs.{ends-fails}
+use Rattle.message.proofs.Parts.{part-more}
+use Rattle.message.proofs.Runs.{ends-fails, byte-is, start-name, start-in-name}
 use Rattle.message.proofs.Automaton.{State, Next, dead, goes, only, step}
 use Rattle.message.proofs.Dues.{mayEnd, long, longPart, due, At}
 use Rattle.message.proofs.Going.{MarkedAt, Part, Roomy, Stuck, longs, Outcome, outcome-then, at-has}
 use Rattle.message.proofs.Acting.{stuck-here, Acts, acts-at, acts-one}
-
--- a part of the message and one byte more
-pub part-more : (s : List ℕ) (b i : ℕ) → b ≤ i → i < length s → part s b (i + 1) ≡ part s b i ++ (byteAt s i ∷ [])
-part-more s b i h inside = rw (add-one, take-suc s i 0 inside, drop-append-le b (take i s) (byteAt s i ∷ []) (rw (length-take-le i s (omega arith)) h))
-
-pub part-one : (s : List ℕ) (b : ℕ) → b < length s → part s b (b + 1) ≡ byteAt s b ∷ []
-part-one s b inside = part-more s b b (omega arith) inside ∙ rw (slice-empty b s)
-
--- what begins a name may stand in one
-pub start-name : (x : ℕ) → isStart classOf x ≡ true → isName classOf x ≡ true
-start-name x h = le-leb 4 (classOf x) (omega (arith, eqb-true (classOf x) 5 h))
-
-pub colon-no-name : isName classOf 58 ≡ false
-unfolding classOf
-colon-no-name = refl
 
 module _ (l : Limits) (s : List ℕ) where
   -- the states in which a name is read: in its first part or its second, with what was read of it, and behind the colon
@@ -90,11 +76,11 @@ module _ (l : Limits) (s : List ℕ) where
       where
         run : has (isStart classOf) s q ≡ true → long l s q ≡ false → Behind q (ends (isName classOf) s q)
         run h short =
-            let named : has (isName classOf) s q ≡ true = has-in (isName classOf) s q (has-lt (isStart classOf) s q h) ∙ start-name (byteAt s q) (has-byte (isStart classOf) s q h) in
+            let named : has (isName classOf) s q ≡ true = start-name classOf s q h in
             record {
               here = rw (ends-more (isName classOf) s q named) (run-on (length s) (q + 1) (omega arith) (omega (arith, at-q .from)) (at-has l s (isStart classOf) q (at-q .here) h (at-q .looks h ∙ short) (at-q .starts h)));
               run = refl;
-              on = omega (arith, ends-more (isName classOf) s q named, ends-from (isName classOf) s (q + 1));
+              on = start-in-name classOf s q h;
             }
 
         short : has (isStart classOf) s q ≡ true → (u : Bool) → long l s q ≡ u → Outcome l s (Behind q) (cond u (refused 14 q) (whole (ends (isName classOf) s q)))
@@ -134,18 +120,14 @@ module _ (l : Limits) (s : List ℕ) where
         undivided : (e : ℕ) → Behind N false b b e → has (is 58) s e ≡ false → NameRead b (record { local = b; end = e })
         undivided e behind h = record { inSecond = false; here = behind .here; ended = stopped e behind; undivided = rw h }
 
-        no-colon : (t : Bool) → (t && false) ≡ false
-        no-colon true = refl
-        no-colon false = refl
-
         colon-part : (e : ℕ) → b ≤ e → has (is 58) s e ≡ true → part s b e ++ (58 ∷ []) ≡ part s b (e + 1)
         colon-part e from h =
-            ap (λ (x : ℕ). part s b e ++ (x ∷ [])) (sym (eqb-true (byteAt s e) 58 (has-byte (is 58) s e h))) ∙ sym (part-more s b e from (has-lt (is 58) s e h))
+            ap (λ (x : ℕ). part s b e ++ (x ∷ [])) (sym (byte-is 58 s e h)) ∙ sym (part-more s b e from (has-lt (is 58) s e h))
 
         before-second : (e : ℕ) → Behind N false b b e → has (is 58) s e ≡ true → Before N true b (e + 1)
         before-second e behind h =
             let from : b ≤ e = omega (arith, behind .on) in
-            let colon : byteAt s e ≡ 58 = eqb-true (byteAt s e) 58 (has-byte (is 58) s e h) in
+            let colon : byteAt s e ≡ 58 = byte-is 58 s e h in
             record {
               state = N .behindColon (part s b (e + 1));
               here = subst (λ (w : List ℕ). At l s (N .behindColon w) (e + 1)) (colon-part e from h)
@@ -167,4 +149,4 @@ module _ (l : Limits) (s : List ℕ) where
         divided : (e : ℕ) → Behind N false b b e → has (is 58) s e ≡ true → Outcome l s (NameRead b) (partAt classOf (l .part) s (e + 1) >>= (λ last. whole (record { local = e + 1; end = last })))
         divided e behind h =
             outcome-then l s (Behind N true b (e + 1)) (NameRead b) _ (partAt classOf (l .part) s (e + 1)) (going-part N true b (e + 1) (before-second e behind h))
-            (λ last q behind′. record { inSecond = true; here = behind′ .here; ended = stopped last behind′; undivided = no-colon (has (is 58) s last) })
+            (λ last q behind′. record { inSecond = true; here = behind′ .here; ended = stopped last behind′; undivided = and-false (has (is 58) s last) })

@@ -12,19 +12,12 @@ use Rattle.message.specs.Class.{classOf, isSpace}
 use Rattle.message.specs.Reading.{Reading, _>>=_, is, byteAt, has, one, ends, wordAt, isQuote, equalsAt, openedAt}
 use Rattle.message.specs.Limits.{Limits}
 use Rattle.message.proofs.Laws.{or-false, has-lt, has-byte, one-has, fails-byte}
+use Rattle.message.proofs.Bytes.{solid-equals, quote-no-space}
 use Rattle.message.proofs.Runs.{ends-fails}
-use Rattle.message.proofs.Automaton.{Test, exact, exactly, State, blanks, Next, dead, goes, only, step, expecting, solid-equals, equals, stepBlanks}
+use Rattle.message.proofs.Automaton.{Test, exact, exactly, State, blanks, Next, dead, goes, only, step, expecting, equals, stepBlanks}
 use Rattle.message.proofs.Dues.{mayEnd, due, At}
 use Rattle.message.proofs.Going.{Outcome, outcome-then, outcome-as, outcome-one, outcome-word, at-ends}
 use Rattle.message.proofs.Acting.{Acts, acts-one, acts-at, acts-blanks}
-
-quote-no-space : (x : ℕ) → isQuote x ≡ true → isSpace classOf x ≡ false
-unfolding classOf
-quote-no-space x h = go (eqb x 34) refl
-  where
-    go : (t : Bool) → eqb x 34 ≡ t → isSpace classOf x ≡ false
-    go true e = rw (eqb-true x 34 e)
-    go false e = rw (eqb-true x 39 (or-false _ e ∙ h))
 
 module _ (l : Limits) (s : List ℕ) where
   -- ---- a word behind white space

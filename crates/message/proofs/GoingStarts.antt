@@ -1,7 +1,7 @@
 -- The machine reads start tags as `startAt` does, where an element may begin. Assumes nothing.
 use Prim.Native.Nat.{ℕ, _+_, _<_, _≤_}
 use mathlib.Core.Path.{_≡_, refl, sym, _∙_, ap, subst}
-use mathlib.Core.Bool.{Bool, true, false, cond, not, _&&_, _||_, true≢false}
+use mathlib.Core.Bool.{Bool, true, false, cond, not, _&&_, _||_, true≢false, and-false}
 use mathlib.Core.List.{List, [], _∷_}
 use native.Mathlib.Omega.{arith}
 use lib.ListN.{length}
@@ -16,13 +16,14 @@ use Rattle.message.specs.Elements.{part, Element, Start, endsTag, startE
 use Rattle.message.specs.Readable.{of-start}
 use Rattle.message.specs.Readable as readable
 use Rattle.message.proofs.Laws.{cond-cases, has-second, has-in, has-lt, has-byte, one-yes, one-no, fails-byte}
+use Rattle.message.proofs.Parts.{part-one}
+use Rattle.message.proofs.Bytes.{colon-no-name}
 use Rattle.message.proofs.Automaton.{Ground, first, before, behind, inside, State, ground, opened, name, colon, inTag, slash, Next, dead, goes, step, after, named, tag, betweenTags, stepInTag}
 use Rattle.message.proofs.Dues.{isBehind, depth, opening, long, due, At}
 use Rattle.message.proofs.Going.{deep, Stuck, Outcome, outcome-then, outcome-as, outcome-one, at-has}
 use Rattle.message.proofs.Acting.{stuck-here, Acts, acts-at, acts-as}
-use Rattle.message.proofs.GoingNames.{colon-no-name, part-one, Naming, NameRead, NameBefore, going-name}
+use Rattle.message.proofs.GoingNames.{Naming, NameRead, NameBefore, going-name}
 use Rattle.message.proofs.GoingAttributes.{Tagged, EndsAt, going-attributes}
-use Rattle.message.proofs.GoingMarkup.{and-none}
 
 -- the names of the elements that are open
 abbrev pub names : Ground → List (List ℕ)
@@ -89,7 +90,7 @@ module _ (l : Limits) (s : List ℕ) where
         start tagged true h = rw (one-yes (isStart classOf) s (i + 1) h) (ground g, place .here, deep g refl tagged (rw (le-leb (l .levels) (depth g) (omega arith), place .front, h)) full)
         start tagged false h =
             rw (one-no (isStart classOf) s (i + 1) h)
-            (stuck-here l s (at-opened tagged (rw h (and-none (leb (l .levels) (depth g) && not (isBehind g))))) refl (λ within. opens-name tagged within ∙ rw (fails-byte (isStart classOf) s (i + 1) within h)))
+            (stuck-here l s (at-opened tagged (rw h (and-false (leb (l .levels) (depth g) && not (isBehind g))))) refl (λ within. opens-name tagged within ∙ rw (fails-byte (isStart classOf) s (i + 1) within h)))
 
         go : (t : Bool) → has (is 60) s i ≡ t → Outcome l s P (one (is 60) s i >>= (λ b. one (isStart classOf) s b >>= (λ _. refused 10 i)))
         go true h = rw (one-yes (is 60) s i h) (start h (has (isStart classOf) s (i + 1)) refl)

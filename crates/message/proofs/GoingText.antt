@@ -13,56 +13,13 @@ use Rattle.message.specs.Text.{specialAt, bracketAt, beyondPlainInAt, be
 use Rattle.message.specs.Characters.{longAt}
 use Rattle.message.specs.Limits.{Limits}
 use Rattle.message.proofs.Laws.{cond-cases, both-first, both-second, has-in, has-lt, has-byte, has-out, ends-from, ends-more, ends-stop, fails-byte}
+use Rattle.message.proofs.Bytes.{other-than, has-other, quote-no-plain, tag-no-plain, bracket-no-plain, plain-text, note-no-hyphen}
 use Rattle.message.proofs.Runs.{ends-fails}
 use Rattle.message.proofs.Progress.{beyond-plain-in-on, beyond-plain-on, beyond-note-on}
 use Rattle.message.proofs.Automaton.{inside, State, ground, note, value, dead, goes, step, leads, special, brackets}
 use Rattle.message.proofs.Dues.{due, At}
 use Rattle.message.proofs.Going.{dies, cut, Stuck, Outcome, outcome-then, outcome-as, at-has, at-ends}
 use Rattle.message.proofs.GoingCharacters.{Steps, Behind, going-one, going-long, going-special}
-
--- ---- plain bytes
-
--- a byte whose class is below k is no byte of a class from k on
-other-class : (k b : ℕ) → leb k (classOf b) ≡ false → (x : ℕ) → leb k (classOf x) ≡ true → is b x ≡ false
-other-class k b low x h = go (is b x) refl
-  where
-    go : (t : Bool) → is b x ≡ t → is b x ≡ false
-    go true e = absurd (true≢false (sym h ∙ ap (λ (y : ℕ). leb k (classOf y)) (eqb-true x b e) ∙ low))
-    go false e = e
-
-plain-text : (x : ℕ) → isPlain classOf x ≡ true → isText classOf x ≡ true
-plain-text x h = le-leb 1 (classOf x) (omega (arith, leb-true 2 (classOf x) h))
-
--- a quotation mark is marking
-quote-class : (q : ℕ) (t : Bool) → eqb q 34 ≡ t → (t || eqb q 39) ≡ true → isPlain classOf q ≡ false
-unfolding classOf
-quote-class q true e h = ap (isPlain classOf) (eqb-true q 34 e)
-quote-class q false e h = ap (isPlain classOf) (eqb-true q 39 h)
-
-plain-quote : (q : ℕ) → isQuote q ≡ true → (x : ℕ) → isPlain classOf x ≡ true → is q x ≡ false
-plain-quote q h = other-class 2 q (quote-class q (eqb q 34) refl h)
-
-opening-class : isPlain classOf 60 ≡ false
-unfolding classOf
-opening-class = refl
-
-bracket-class : isPlain classOf 93 ≡ false
-unfolding classOf
-bracket-class = refl
-
-has-other : (b : ℕ) → isPlain classOf b ≡ false → (s : List ℕ) (i : ℕ) → has (isPlain classOf) s i ≡ true → has (is b) s i ≡ false
-has-other b low s i h = has-in (is b) s i (has-lt (isPlain classOf) s i h) ∙ other-class 2 b low (byteAt s i) (has-byte (isPlain classOf) s i h)
-
--- a plain byte of a comment is no `-`
-note-plain : (x : ℕ) → isPlainNote classOf x ≡ true → is 45 x ≡ false
-note-plain x h = go (is 45 x) refl
-  where
-    other : not (is 45 x) ≡ true
-    other = both-second (isText classOf x || (is 60 x || is 38 x)) (not (is 45 x)) h
-
-    go : (t : Bool) → is 45 x ≡ t → is 45 x ≡ false
-    go true e = absurd (true≢false (sym (rw e at other)))
-    go false e = e
 
 module _ (l : Limits) (s : List ℕ) where
   -- ---- what is no plain text, up to the place behind it
@@ -84,7 +41,7 @@ module _ (l : Limits) (s : List ℕ) where
   Quoted q st e = At l s st e × (has (is q) s e ≡ true)
 
   value-stays : (q : ℕ) → isQuote q ≡ true → (n : List ℕ) (seen o : List (List ℕ)) (x : ℕ) → isPlain classOf x ≡ true → step (value q n seen o) x ≡ goes (value q n seen o)
-  value-stays q quotes n seen o x h = rw (plain-quote q quotes x h, plain-text x h)
+  value-stays q quotes n seen o x h = rw (other-than (isPlain classOf) q (quote-no-plain q quotes) x h, plain-text x h)
 
   pub going-value : (q : ℕ) → isQuote q ≡ true → (n : List ℕ) (seen o : List (List ℕ)) (fuel i : ℕ) → length s ≤ fuel + i → At l s (value q n seen o) i → Outcome l s (λ e. At l s (value q n seen o) e × (has (is q) s e ≡ true)) (valueAt classOf fuel q s i)
   unfolding valueAt
@@ -137,8 +94,8 @@ module _ (l : Limits) (s : List ℕ) where
     -- one plain byte
     text-plain : (b i : ℕ) → Safe b i → At l s (within b) i → has (isPlain classOf) s i ≡ true → At l s (within 0) (i + 1)
     text-plain b i safe here t =
-        let not-60 = has-other 60 opening-class s i t in
-        let steps = text-step b i safe not-60 (has-other 93 bracket-class s i t) (has-lt (isPlain classOf) s i t) in
+        let not-60 = has-other (isPlain classOf) 60 tag-no-plain s i t in
+        let steps = text-step b i safe not-60 (has-other (isPlain classOf) 93 bracket-no-plain s i t) (has-lt (isPlain classOf) s i t) in
         at-has l s (isPlain classOf) i here t (text-free b i not-60) (steps ∙ rw (plain-text (byteAt s i) (has-byte (isPlain classOf) s i t)))
 
     -- a run of plain bytes
@@ -146,10 +103,10 @@ module _ (l : Limits) (s : List ℕ) where
     text-run i here = go (has (isPlain classOf) s i) refl
       where
         free : (j : ℕ) → has (isPlain classOf) s j ≡ true → due l s (within 0) j ≡ false
-        free j h = text-free 0 j (has-other 60 opening-class s j h)
+        free j h = text-free 0 j (has-other (isPlain classOf) 60 tag-no-plain s j h)
 
         stays : (x : ℕ) → isPlain classOf x ≡ true → step (within 0) x ≡ goes (within 0)
-        stays x h = rw (other-class 2 60 opening-class x h, other-class 2 93 bracket-class x h, plain-text x h)
+        stays x h = rw (other-than (isPlain classOf) 60 tag-no-plain x h, other-than (isPlain classOf) 93 bracket-no-plain x h, plain-text x h)
 
         go : (t : Bool) → has (isPlain classOf) s i ≡ t → Text (ends (isPlain classOf) s i)
         go true t =
@@ -245,9 +202,9 @@ module _ (l : Limits) (s : List ℕ) where
             rw (ends-more (isPlainNote classOf) s i t) (
               0,
               tt,
-              at-ends l s (isPlainNote classOf) (λ j h. refl) (λ x h. rw (h, note-plain x h)) (i + 1)
+              at-ends l s (isPlainNote classOf) (λ j h. refl) (λ x h. rw (h, note-no-hyphen x h)) (i + 1)
                   (at-has l s (isPlainNote classOf) i (here .2) t refl
-                  (note-step (here .0) i (here .1) (has-in (is 45) s i below ∙ note-plain (byteAt s i) x-is) below ∙ rw x-is)),
+                  (note-step (here .0) i (here .1) (has-in (is 45) s i below ∙ note-no-hyphen (byteAt s i) x-is) below ∙ rw x-is)),
             )
         go false t = rw (ends-stop (isPlainNote classOf) s i t) here
 

@@ -10,11 +10,13 @@ use native.Mathlib.Omega.{arith}
 use lib.ListN.{length, drop, drop-of-length-le}
 use lib.Seq.{drop-cons}
 use borrow.Author.Tests.{eqb-true, not-true, not-false}
+use Rattle.laws.proofs.Tests.{either}
 use Rattle.message.specs.Class.{classOf, isSpace}
 use Rattle.message.specs.Reading.{Reading, _>>=_, isWhole, is, byteAt, has, wordAt}
 use Rattle.message.specs.Markup.{doctype, cdata, declares}
 use Rattle.message.specs.Limits.{Limits}
 use Rattle.message.proofs.Laws.{has-in, has-lt, has-byte, one-no, one-yes, both-first, both-second}
+use Rattle.message.proofs.Runs.{byte-is, word-begins}
 use Rattle.message.proofs.Automaton.{exact, exactly, Ground, first, before, behind, inside, State, ground, opened, expect, declared, versionWord, comment, dead, goes, only, step, steps}
 use Rattle.message.proofs.Dues.{isFirst, mayEnd, opening}
 use Rattle.message.proofs.Ways.{steps-on, steps-dead}
@@ -94,22 +96,9 @@ module _ (s : List ℕ) (st : State) (ends : mayEnd st ≡ true) where
 
 -- ---- the openings
 
-either : (a b : Bool) → (a || b) ≡ true → (a ≡ true) ⊎ (b ≡ true)
-either true b e = inl refl
-either false b e = inr e
-
--- the first byte of a word that stands there
-word-begins : (b : ℕ) (word s : List ℕ) (i : ℕ) → isWhole (wordAt (b ∷ word) s i) ≡ true → has (is b) s i ≡ true
-unfolding wordAt
-word-begins b word s i h = go (has (is b) s i) refl
-  where
-    go : (t : Bool) → has (is b) s i ≡ t → t ≡ true
-    go true e = refl
-    go false e = sym (ap (λ (r : Reading ℕ). isWhole (r >>= wordAt word s)) (one-no (is b) s i e)) ∙ h
-
 -- two bytes at one place
 two-bytes : (b c : ℕ) (s : List ℕ) (i : ℕ) → has (is b) s i ≡ true → has (is c) s i ≡ true → b ≡ c
-two-bytes b c s i h k = sym (eqb-true (byteAt s i) b (has-byte (is b) s i h)) ∙ eqb-true (byteAt s i) c (has-byte (is c) s i k)
+two-bytes b c s i h k = sym (byte-is b s i h) ∙ byte-is c s i k
 
 pub opening-ends : (l : Limits) (s : List ℕ) (g : Ground) (p : ℕ) → (isFirst g ≡ true → p ≡ 0) → has (is 60) s p ≡ true → opening l s g p ≡ true
     → (st : State) → steps (ground g) (drop p s) ≡ goes st → mayEnd st ≡ true → ⊥

@@ -15,19 +15,15 @@ use Rattle.message.specs.Limits.{Limits}
 use Rattle.message.specs.Readable.{MarkupMayBegin, FirstPart, of-start, of-end, of-attribute, PartStands}
 use Rattle.message.specs.Readable as readable
 use Rattle.message.proofs.Laws.{both-second, has-out, has-lt, has-byte, ends-more, ends-stop, ends-from, fails-byte}
+use Rattle.message.proofs.Bytes.{Letter, name-letter, colon-letter, letter-not, letter-solid, colon-no-start, colon-no-name}
 use Rattle.message.proofs.Automaton.{Ground, first, before, behind, inside, State, ground, opened, name, colon, inTag, attribute, attributeColon, dead, goes, only, closing, step}
 use Rattle.message.proofs.Dues.{isBehind, long, due, At}
-use Rattle.message.proofs.GoingNames.{colon-no-name}
 use Rattle.message.proofs.GoingStarts.{names}
-use Rattle.message.proofs.Sound.{Letter, name-letter, colon-letter}
 use Rattle.message.proofs.Alive.{state-one, alive-before}
 use Rattle.message.proofs.Accepted.{goes-same}
 use Rattle.message.proofs.TagInverse.{OpenedAt, opened-at, goes-at, tag-inverse}
 
 -- ---- what the states before a name do on a byte of a name or a colon
-
-letter-not : (b x : ℕ) → (isName classOf b || eqb b 58) ≡ false → Letter x → is b x ≡ false
-letter-not b x fails h = ne-eqb x b (λ e. true≢false (sym h ∙ ap (λ (y : ℕ). isName classOf y || eqb y 58) e ∙ fails))
 
 -- it is no `!`, `?`, `/`, `>` and no white space
 record Plain (x : ℕ) : Type 0 where
@@ -40,19 +36,12 @@ record Plain (x : ℕ) : Type 0 where
 letter-plain : (x : ℕ) → Letter x → Plain x
 unfolding classOf
 letter-plain x h = record {
-  bang = letter-not 33 x refl h;
-  question = letter-not 63 x refl h;
-  slash = letter-not 47 x refl h;
-  greater = letter-not 62 x refl h;
-  solid = ne-eqb (classOf x) 3 (λ e. true≢false (sym h ∙ fails e));
+  bang = letter-not 33 refl x h;
+  question = letter-not 63 refl x h;
+  slash = letter-not 47 refl x h;
+  greater = letter-not 62 refl x h;
+  solid = letter-solid x h;
 }
-  where
-    fails : classOf x ≡ 3 → (isName classOf x || eqb x 58) ≡ false
-    fails e = rw e (ne-eqb x 58 (λ q. omega (arith, sym e ∙ ap classOf q)))
-
-colon-no-start : isStart classOf 58 ≡ false
-unfolding classOf
-colon-no-start = refl
 
 opened-step : (g : Ground) (x : ℕ) → Letter x → step (opened g) x ≡ only (not (isBehind g) && isStart classOf x) (name false (x ∷ []) (names g))
 opened-step g x h = go g (letter-plain x h)

@@ -19,12 +19,12 @@ use Rattle.message.specs.Limits.{Limits}
 use Rattle.message.specs.Elements.{part}
 use Rattle.message.specs.Due.{Spelled, Declares, Opening, doctype, cdata, instruction}
 use Rattle.message.proofs.Laws.{and-true, or-true, has-in, has-lt, has-byte, one-yes, one-has, both-first, both-second}
+use Rattle.message.proofs.Runs.{has-known}
+use Rattle.message.proofs.Bytes.{bang-no-start, question-no-start}
 use Rattle.message.proofs.Parts.{part-length, part-some, part-none}
 use Rattle.message.proofs.Facts.{whole-is}
 use Rattle.message.proofs.Words.{word-first, word-ends, word-within, word-part}
-use Rattle.laws.proofs.Tests.{never, either}
-use Rattle.message.proofs.GoingMarkup.{or-last, not-both, byte-test, bang-no-start}
-use Rattle.message.proofs.GoingDeclaration.{question-no-start}
+use Rattle.laws.proofs.Tests.{never, either, or-last, not-both}
 use Rattle.message.proofs.Automaton.{Ground}
 use Rattle.message.proofs.Dues.{isFirst, opening}
 
@@ -121,4 +121,4 @@ module _ (s : List ℕ) where
         ⊎-elim (λ b. other 33 bang-no-start (both-first (has (is 33) s (p + 1)) words b)) (λ b. other 63 question-no-start (both-first (has (is 63) s (p + 1)) (not (isFirst g && declares classOf s)) b)) (either banging asking h)
       where
         other : (b : ℕ) → isStart classOf b ≡ false → has (is b) s (p + 1) ≡ true → ⊥
-        other b no-start stands = true≢false (sym start ∙ byte-test s b (p + 1) (isStart classOf) no-start stands)
+        other b no-start stands = true≢false (sym start ∙ has-known b s (p + 1) stands (isStart classOf) ∙ no-start)

@@ -8,6 +8,7 @@ use native.Mathlib.Omega.{arith}
 use lib.ListN.{length, take}
 use lib.Dec.{ltb, leb}
 use borrow.Author.Tests.{leb-false}
+use Rattle.laws.proofs.Tests.{neither}
 use Rattle.message.specs.Class.{classOf, isStart, isName, isSpace}
 use Rattle.message.specs.Reading.{Reading, _>>=_, is, byteAt, has, ends, blanks}
 use Rattle.message.specs.Reading.Reading.{whole, refused}
@@ -16,28 +17,20 @@ use Rattle.message.specs.Limits.{Limits}
 use Rattle.message.specs.Elements.{part, isKnown, endsTag}
 use Rattle.message.specs.Readable.{MarkupMayBegin, NameStands, AttributeStands, AttributesStand, TagStands}
 use Rattle.message.proofs.Laws.{went, and-true, has-lt, has-byte, one-yes, ends-more, ends-from, fails-byte}
+use Rattle.message.proofs.Bytes.{has-other, has-fails, end-no-start}
 use Rattle.message.proofs.Progress.{past-whole}
 use Rattle.message.proofs.Trees.{past-name, past-quoted, whole-same}
 use Rattle.message.proofs.Facts.{then-whole}
 use Rattle.message.proofs.Automaton.{Ground, first, before, behind, inside, State, ground, opened, inTag, dead, goes, step}
 use Rattle.message.proofs.Dues.{isBehind, depth, opening, tooDeep, long, due, At}
 use Rattle.message.proofs.Going.{Outcome, at-has}
-use Rattle.message.proofs.GoingMarkup.{byte-test}
 use Rattle.message.proofs.GoingNames.{Naming, NameRead, NameBefore, going-name}
-use Rattle.message.proofs.GoingAttributes.{or-both, Tagged, Fresh, spaced, going-fresh-name, going-quoted, next-tagged, end-no-start}
+use Rattle.message.proofs.GoingAttributes.{Tagged, Fresh, spaced, going-fresh-name, going-quoted, next-tagged}
 use Rattle.message.proofs.GoingAttributes as attributes
 use Rattle.message.proofs.GoingStarts.{names, slashed, Place, naming, name-before, tagged-there}
 use Rattle.message.proofs.Shapes.{name-is, name-same, name-refused}
 use Rattle.message.proofs.Alive.{state-one, alive-before, not-stuck-before}
 use Rattle.message.proofs.Accepted.{may-ground}
-
--- a byte that passes a test is none that fails it
-no-byte : (s : List ℕ) (b i : ℕ) (test : ℕ → Bool) → test b ≡ false → has test s i ≡ true → has (is b) s i ≡ false
-no-byte s b i test fails h = go (has (is b) s i) refl
-  where
-    go : (t : Bool) → has (is b) s i ≡ t → has (is b) s i ≡ false
-    go true e = absurd (true≢false (sym h ∙ byte-test s b i test fails e))
-    go false e = e
 
 -- the places of an attribute
 attribute-on : (s : List ℕ) (last to : ℕ) (stands : AttributeStands s last to)
@@ -92,7 +85,7 @@ module _ (l : Limits) (s : List ℕ) (p : ℕ) (st : State) (here : At l s st p)
 
   module _ (at : ℕ) (o : OpenedAt at) (tag : has (is 60) s at ≡ true) (starts : has (isStart classOf) s (at + 1) ≡ true) (less : at + 1 < p) where
     none : (b : ℕ) → isStart classOf b ≡ false → has (is b) s (at + 1) ≡ false
-    none b fails = no-byte s b (at + 1) (isStart classOf) fails starts
+    none b fails = has-other (isStart classOf) b fails s (at + 1) starts
 
     front : isBehind (o .from) ≡ false
     unfolding classOf
@@ -129,7 +122,7 @@ module _ (l : Limits) (s : List ℕ) (p : ℕ) (st : State) (here : At l s st p)
       where
         go : (t : Bool) → leb (l .levels) (depth (o .from)) ≡ t → t ≡ false
         go true e =
-            let deep : tooDeep l s (o .from) at ≡ false = or-both (opening l s (o .from) at) (tooDeep l s (o .from) at) (and-true _ tag ∙ o .free) .1 in
+            let deep : tooDeep l s (o .from) at ≡ false = neither (opening l s (o .from) at) (tooDeep l s (o .from) at) (and-true _ tag ∙ o .free) .1 in
             absurd (true≢false (sym (rw (e, front, starts)) ∙ deep))
         go false e = refl
 
@@ -159,14 +152,14 @@ module _ (l : Limits) (s : List ℕ) (p : ℕ) (st : State) (here : At l s st p)
       no-end = go (has endsTag s q) refl
         where
           go : (t : Bool) → has endsTag s q ≡ t → has endsTag s q ≡ false
-          go true h = absurd (true≢false (sym begins ∙ end-no-start s q h))
+          go true h = absurd (true≢false (sym begins ∙ has-fails endsTag (isStart classOf) end-no-start s q h))
           go false h = h
 
       -- the limit leaves room, since the machine goes on
       room-there : leb (l .attributes) (length seen) ≡ false
       room-there =
           let free = goes-at q (inTag true n seen o) (spaced l s n o seen last tagged (stands .space)) (omega (arith, on .1, on .2)) .0 in
-          or-both (leb (l .attributes) (length seen)) (long l s q) (and-true _ begins ∙ free) .0
+          neither (leb (l .attributes) (length seen)) (long l s q) (and-true _ begins ∙ free) .0
 
       fresh-there : Fresh l s n o seen last tagged no-end e
       fresh-there =
