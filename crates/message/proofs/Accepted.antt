@@ -24,19 +24,13 @@ use Rattle.message.proofs.Going.{MarkedAt, Cause, dies, cut, deep, crow
 use Rattle.message.proofs.GoingElements.{going-document}
 use Rattle.message.proofs.Raising.{document-rest}
 use Rattle.message.proofs.Endings.{finish, finishes}
-use Rattle.message.proofs.Ways.{steps-on, steps-dead, then-steps, steps-append, steps-at}
+use Rattle.message.proofs.Ways.{steps-on, steps-dead, then-steps, steps-append, steps-at, goes-dead, goes-same}
 use Rattle.message.proofs.Openings.{opening-ends}
 use Rattle.message.proofs.Past.{at-first}
 use Rattle.message.proofs.Sound.{sane-at}
 use Rattle.message.proofs.Inverse.{comment-ground, ground-comment}
 
 -- ---- what the machine does over bytes that are cut in two
-
-pub goes-dead : {st : State} → goes st ≡ dead → ⊥
-goes-dead e = let z : _≡_ {A = ℕ} 0 1 = cc in omega arith
-
-pub goes-same : {st st′ : State} → goes st ≡ goes st′ → st ≡ st′
-goes-same e = cc
 
 -- from the state behind the first bytes
 pub steps-from : (st : State) (u v : List ℕ) (mid : State) → steps st u ≡ goes mid → steps st (u ++ v) ≡ steps mid v
@@ -87,13 +81,8 @@ module _ (s : List ℕ) (ends : steps (ground first) s ≡ goes (ground behind))
   no-cause st p n here (deep g q tag far levels) which = ⊎-elim (λ e. omega arith) (λ e. omega arith) which
   no-cause st p n here (crowded m seen o q start many crowd) which = ⊎-elim (λ e. omega arith) (λ e. omega arith) which
   no-cause st p n here (opens g q tag opening) which =
-      opening-ends (free s) s g p (λ e. at-first (free s) s p (subst (λ (h : State). At (free s) s h p) (q ∙ first-is g e) here)) tag opening (ground behind) (subst (λ (h : State). steps h (drop p s) ≡ goes (ground behind)) q (over-rest p st here)) refl
-    where
-      first-is : (g : Ground) → isFirst g ≡ true → ground g ≡ ground first
-      first-is first e = refl
-      first-is before e = absurd (true≢false (sym e))
-      first-is behind e = absurd (true≢false (sym e))
-      first-is (inside b v o) e = absurd (true≢false (sym e))
+      opening-ends (free s) s g p (at-first (free s) s p g (subst (λ (h : State). At (free s) s h p) q here)) tag opening (ground behind)
+      (subst (λ (h : State). steps h (drop p s) ≡ goes (ground behind)) q (over-rest p st here)) refl
   no-cause st p n here (longs due long next q roomy part) which = ⊎-elim (λ e. omega arith) (λ e. omega arith) which
 
   pub ends-readable : Readable s

@@ -19,34 +19,25 @@ use Rattle.message.proofs.Laws.{and-true, or-true, has-lt}
 use Rattle.message.proofs.Automaton.{Ground, first, before, behind, inside, State, ground, inTag, Next, goes, step, steps}
 use Rattle.message.proofs.Automaton as automaton
 use Rattle.message.proofs.Dues as dues
-use Rattle.message.proofs.Dues.{isBehind, isFirst, depth, tooDeep, due, At}
-use Rattle.message.proofs.Accepted.{goes-dead, steps-from, readable-ends, goes-continues, may-ground}
+use Rattle.message.proofs.Dues.{isBehind, isFirst, depth, tooDeep, due, Here}
+use Rattle.message.proofs.Accepted.{steps-from, readable-ends, goes-continues, may-ground}
 use Rattle.message.proofs.Sound.{sane-at}
 use Rattle.message.proofs.Inverse.{open-depth}
 use Rattle.message.proofs.Past.{at-first}
-use Rattle.message.proofs.Ways.{steps-at}
+use Rattle.message.proofs.Ways.{steps-at, goes-dead}
 use Rattle.message.proofs.Spelling.{stands-opening, spelled-first}
 use Rattle.message.proofs.Causes.{long-name}
 use Rattle.message.proofs.TagInverse.{tag-inverse}
 use Rattle.message.proofs.PartInverse.{part-inverse}
 
 module _ (s : List ℕ) where
-  abbrev Here : State → ℕ → Type 0
-  Here = At linkLimits s
-
   -- ---- the state where a refusal is due
 
-  first-is : (g : Ground) → isFirst g ≡ true → ground g ≡ ground first
-  first-is first e = refl
-  first-is before e = absurd (true≢false (sym e))
-  first-is behind e = absurd (true≢false (sym e))
-  first-is (inside b v o) e = absurd (true≢false (sym e))
-
   -- where n elements are open the machine is that deep
-  pub open-ground : (n p : ℕ) (st : State) → Here st p → Open n (take p s) → (g : Ground) × (st ≡ ground g) × (depth g ≡ n)
+  pub open-ground : (n p : ℕ) (st : State) → Here s st p → Open n (take p s) → (g : Ground) × (st ≡ ground g) × (depth g ≡ n)
   open-ground n p st here open-there =
       let x = may-ground linkLimits s p st here (open-there .markup) in
-      let at-ground : Here (ground (x .0)) p = subst (λ (h : State). Here h p) (x .1) here in
+      let at-ground : Here s (ground (x .0)) p = subst (λ (h : State). Here s h p) (x .1) here in
       let closed : steps (ground (x .0)) (endTags (open-there .names)) ≡ goes (ground behind) = sym (steps-from (ground first) (take p s) (endTags (open-there .names)) (ground (x .0)) (steps-at linkLimits s p (ground (x .0)) at-ground)) ∙ readable-ends (take p s ++ endTags (open-there .names)) (open-there .closed) in
       (x .0, x .1, open-depth (x .0) (sane-at linkLimits s p (ground (x .0)) at-ground) (open-there .names) (open-there .named) closed ∙ open-there .many)
 
@@ -69,7 +60,7 @@ module _ (s : List ℕ) where
 
   -- ---- something is due, or the byte is dead
 
-  module _ (p : ℕ) (st next : State) (here : Here st p) (within : p < length s) (free : due linkLimits s st p ≡ false) (going : step st (byteAt s p) ≡ goes next) where
+  module _ (p : ℕ) (st next : State) (here : Here s st p) (within : p < length s) (free : due linkLimits s st p ≡ false) (going : step st (byteAt s p) ≡ goes next) where
     undue : (st′ : State) → st ≡ st′ → due linkLimits s st′ p ≡ true → ⊥
     undue st′ same h = true≢false (sym (ap (λ (x : State). due linkLimits s x p) same ∙ h) ∙ free)
 
@@ -84,8 +75,8 @@ module _ (s : List ℕ) where
         undue (inTag true (x .0) (x .1) (x .2)) (x .3) (attribute-due (x .0) (x .1) (x .2) p (x .4) (subst (λ (i : ℕ). has (isStart classOf) s i ≡ true) same start))
     blocked n q same (opening q′ marked open-there) =
         let x = may-ground linkLimits s p st here (subst (λ (i : ℕ). MarkupMayBegin (take i s)) same marked) in
-        let at-ground : Here (ground (x .0)) p = subst (λ (h : State). Here h p) (x .1) here in
-        let y = stands-opening s linkLimits (x .0) p (λ e. at-first linkLimits s p (subst (λ (h : State). Here h p) (first-is (x .0) e) at-ground)) (subst (Opening s) same open-there) in
+        let at-ground : Here s (ground (x .0)) p = subst (λ (h : State). Here s h p) (x .1) here in
+        let y = stands-opening s linkLimits (x .0) p (at-first linkLimits s p (x .0) at-ground) (subst (Opening s) same open-there) in
         undue (ground (x .0)) (x .1) (opening-due (x .0) p (y .0) (y .1))
     blocked n q same (long at q′ marked stands far) =
         let far-there : 64 < ends (isName classOf) s p - p = subst (λ (i : ℕ). 64 < ends (isName classOf) s i - i) same far in

@@ -22,9 +22,9 @@ use Rattle.message.specs.Places.{PlaceOfTen, PlaceOfEleven, PlaceOfTwelv
 use Rattle.message.specs.Earliest.{rank, FirstDue, NoneDue, answer, Answered, EarliestWins}
 use Rattle.message.specs.declared.Message.{Message}
 use Rattle.message.proofs.Laws.{has-lt}
+use Rattle.message.proofs.Dues.{Here}
 use Rattle.message.proofs.Facts.{then-whole}
 use Rattle.message.proofs.Automaton.{Ground, behind, State, ground, inTag}
-use Rattle.message.proofs.Dues.{At}
 use Rattle.message.proofs.Going.{Cause, dies, cut, deep, crowded, opens, longs, Stuck, Outcome}
 use Rattle.message.proofs.GoingElements.{going-document}
 use Rattle.message.proofs.Accepted.{whole-fits, at-continues}
@@ -42,9 +42,6 @@ abbrev unrank : ℕ → ℕ
 unrank r = cond (eqb r 0) 9 (cond (eqb r 1) 11 (cond (eqb r 2) 14 (cond (eqb r 3) 10 12)))
 
 module _ (s : List ℕ) where
-  abbrev Here : State → ℕ → Type 0
-  Here = At linkLimits s
-
   -- ---- what is due stands in the message, but for an end that comes too soon
 
   opening-within : (p : ℕ) → Opening s p → p < length s
@@ -61,10 +58,10 @@ module _ (s : List ℕ) where
   due-within n p (long at q marked stands far) = inl (has-lt (isName classOf) s q (long-name s q 64 far))
 
   -- nothing is due before the machine
-  none-passed : (st : State) (p : ℕ) → Here st p → (n q : ℕ) → Due s n q → q < p → ⊥
+  none-passed : (st : State) (p : ℕ) → Here s st p → (n q : ℕ) → Due s n q → q < p → ⊥
   none-passed st p here n q d less =
       let a = alive-before linkLimits s p q st here less in
-      blocked s q (a .0) (a .1) (a .2) (a .6) (a .3) (a .4) n q refl d
+      blocked s q (a .1 .from) (a .0) (a .1 .here) (a .1 .within) (a .1 .free) (a .1 .by) n q refl d
 
   -- ---- at one place
 
@@ -89,7 +86,7 @@ module _ (s : List ℕ) where
   no-nine p n q number same within on (opening q′ marked open-there) = omega arith
   no-nine p n q number same within on (long at q′ marked stands far) = omega arith
 
-  eleven-state : (p : ℕ) (st : State) → Here st p → (n q : ℕ) → n ≡ 11 → q ≡ p → Due s n q → (m : List ℕ) × (seen : List (List ℕ)) × (o : List (List ℕ)) × (st ≡ inTag true m seen o) × (length seen ≡ 16)
+  eleven-state : (p : ℕ) (st : State) → Here s st p → (n q : ℕ) → n ≡ 11 → q ≡ p → Due s n q → (m : List ℕ) × (seen : List (List ℕ)) × (o : List (List ℕ)) × (st ≡ inTag true m seen o) × (length seen ≡ 16)
   eleven-state p st here n q number same (dead q′ inner before off) = absurd (omega arith)
   eleven-state p st here n q number same (unfinished before off) = absurd (omega arith)
   eleven-state p st here n q number same (level q′ open-there tag start) = absurd (omega arith)
@@ -97,7 +94,7 @@ module _ (s : List ℕ) where
   eleven-state p st here n q number same (opening q′ marked open-there) = absurd (omega arith)
   eleven-state p st here n q number same (long at q′ marked stands far) = absurd (omega arith)
 
-  fourteen-state : (p : ℕ) (st : State) → Here st p → (n q : ℕ) → n ≡ 14 → q ≡ p → Due s n q → (g : Ground) → st ≡ ground g → ⊥
+  fourteen-state : (p : ℕ) (st : State) → Here s st p → (n q : ℕ) → n ≡ 14 → q ≡ p → Due s n q → (g : Ground) → st ≡ ground g → ⊥
   fourteen-state p st here n q number same (dead q′ inner before off) = absurd (omega arith)
   fourteen-state p st here n q number same (unfinished before off) = absurd (omega arith)
   fourteen-state p st here n q number same (level q′ open-there tag start) = absurd (omega arith)
@@ -120,7 +117,7 @@ module _ (s : List ℕ) where
   tag-ground : {m : List ℕ} {seen o : List (List ℕ)} {g : Ground} → ground g ≡ inTag true m seen o → ⊥
   tag-ground e = let z : _≡_ {A = ℕ} 0 1 = cc in omega arith
 
-  ranks : (st : State) (p n : ℕ) → Here st p → Cause linkLimits s st p n → (n′ q : ℕ) → q ≡ p → Due s n′ q → rank n ≤ rank n′
+  ranks : (st : State) (p n : ℕ) → Here s st p → Cause linkLimits s st p n → (n′ q : ℕ) → q ≡ p → Due s n′ q → rank n ≤ rank n′
   ranks st p n here (dies within dying) n′ q same d = omega arith
   ranks st p n here (cut out more) n′ q same d = omega arith
   ranks st p n here (crowded m seen o is start many crowd) n′ q same d =
@@ -175,14 +172,14 @@ module _ (s : List ℕ) where
     whole-free : (root : Element) → documentAt classOf s linkLimits 0 ≡ whole root → NoneDue s
     whole-free root q n p d = ⊎-elim (λ within. none-passed (ground behind) (length s) at-end n p d within) (λ last. last .1 (linkLimits, root, q)) (due-within n p d)
       where
-        at-end : Here (ground behind) (length s)
-        at-end = subst (Outcome linkLimits s (λ r. Here (ground behind) (length s))) q (going-document linkLimits s fits)
+        at-end : Here s (ground behind) (length s)
+        at-end = subst (Outcome linkLimits s (λ r. Here s (ground behind) (length s))) q (going-document linkLimits s fits)
 
     read-none : (m : Message) → answer s ≡ whole m → NoneDue s
     read-none m q = let root = read-root m q in whole-free (root .0) (root .1)
 
     document-first : (n p : ℕ) → documentAt classOf s linkLimits 0 ≡ refused n p → FirstDue s n p
-    document-first n p q = stuck-first n p (subst (Outcome linkLimits s (λ r. Here (ground behind) (length s))) q (going-document linkLimits s fits))
+    document-first n p q = stuck-first n p (subst (Outcome linkLimits s (λ r. Here s (ground behind) (length s))) q (going-document linkLimits s fits))
 
     refused-first : (n p : ℕ) → answer s ≡ refused n p → ((n ≡ 13) × (p ≡ 0) × NoneDue s) ⊎ FirstDue s n p
     refused-first n p q = go (message-refusal linkLimits s n p q)

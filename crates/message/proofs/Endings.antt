@@ -7,7 +7,7 @@ use native.Mathlib.Omega.{arith}
 use native.Mathlib.Decide.{decLt}
 use lib.ListN.{length, length-append}
 use lib.Dec.{ltb, leb, eqb}
-use borrow.Author.Tests.{eq-eqb, ne-eqb, eqb-true, eqb-false, ltb-true, ltb-false, leb-true, leb-false}
+use borrow.Author.Tests.{eq-eqb, ne-eqb, eqb-true, eqb-false, ltb-true, ltb-false, leb-true, le-leb}
 use Rattle.message.specs.Class.{classOf, isSpace}
 use Rattle.message.specs.Reading.{is}
 use Rattle.message.specs.Characters.{legal, isDigit, digitOf}
@@ -15,8 +15,8 @@ use Rattle.message.specs.Elements.{isKnown}
 use Rattle.message.specs.Readable.{endTags}
 use Rattle.message.proofs.Laws.{cond-cases, between-yes, between-above}
 use Rattle.message.proofs.Parts.{other-length}
-use Rattle.message.proofs.Automaton.{Test, exact, exactly, secondThree, thirdThree, Ground, first, before, behind, inside, State, ground, opened, expect, blanks, declared, versionQuote, encodingQuote, versioned, encodingName, note, second, ampersand, ampersandA, hash, firstDigit, number, name, colon, inTag, slash, attribute, attributeColon, quote, value, close, goes, expecting, after, closing, declaredEnd, base, numbered, step, steps}
-use Rattle.message.proofs.Ways.{steps-on}
+use Rattle.message.proofs.Automaton.{Test, exact, exactly, secondThree, thirdThree, Ground, first, before, behind, inside, State, ground, opened, expect, blanks, declared, versionQuote, encodingQuote, versioned, encodingName, note, second, ampersand, ampersandA, hash, firstDigit, number, name, colon, inTag, slash, attribute, attributeColon, quote, value, close, goes, expecting, after, closing, declaredEnd, base, step, steps}
+use Rattle.message.proofs.Ways.{steps-on, numbered-small}
 
 -- ---- the bytes
 
@@ -152,17 +152,12 @@ not-legal n low high e = (
     clash : legal n ≡ true → ⊥
     clash q = let z : _≡_ {A = ℕ} 0 1 = cc in omega arith
 
-numbered-goes : (hex : Bool) (n : ℕ) (t : Bool) (e : leb n 1114111 ≡ t) (k : State) → n ≤ 1114111
-    → (small : leb n 1114111 ≡ true) × (numbered hex n t e k ≡ goes (number hex n small k))
-numbered-goes hex n true e k h = (e, refl)
-numbered-goes hex n false e k h = absurd (omega (arith, leb-false n 1114111 e))
-
 module _ (k : State) (u : List ℕ) where
   -- with one more digit
   ends-digit : (hex : Bool) (n d : ℕ) (small : leb n 1114111 ≡ true) → isDigit (base hex) d ≡ true → n * base hex + digitOf d ≤ 1114111
       → ((e : leb (n * base hex + digitOf d) 1114111 ≡ true) → Ends (number hex (n * base hex + digitOf d) e k) u) → Ends (number hex n small k) (d ∷ u)
   ends-digit hex n d small is-digit h more =
-      let went = numbered-goes hex (n * base hex + digitOf d) (leb (n * base hex + digitOf d) 1114111) refl k h in
+      let went = numbered-small hex (n * base hex + digitOf d) k (leb (n * base hex + digitOf d) 1114111) refl (le-leb (n * base hex + digitOf d) 1114111 h) in
       on (number hex n small k) d u (rw is-digit (went .1)) (more (went .0))
 
   ends-legal : (hex : Bool) (n : ℕ) (small : leb n 1114111 ≡ true) → legal n ≡ true → Ends k u → Ends (number hex n small k) (59 ∷ u)

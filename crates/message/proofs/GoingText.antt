@@ -14,7 +14,7 @@ use Rattle.message.specs.Characters.{longAt}
 use Rattle.message.specs.Limits.{Limits}
 use Rattle.message.proofs.Laws.{cond-cases, both-first, both-second, has-in, has-lt, has-byte, has-out, ends-from, ends-more, ends-stop, fails-byte}
 use Rattle.message.proofs.Bytes.{other-than, has-other, quote-no-plain, tag-no-plain, bracket-no-plain, plain-text, note-no-hyphen}
-use Rattle.message.proofs.Runs.{ends-fails}
+use Rattle.message.proofs.Runs.{ends-fails, byte-is}
 use Rattle.message.proofs.Progress.{beyond-plain-in-on, beyond-plain-on, beyond-note-on}
 use Rattle.message.proofs.Automaton.{inside, State, ground, note, value, dead, goes, step, leads, special, brackets}
 use Rattle.message.proofs.Dues.{due, At}
@@ -117,7 +117,7 @@ module _ (l : Limits) (s : List ℕ) where
     -- a `]`
     text-bracket : (b i : ℕ) → At l s (within b) i → has (is 93) s i ≡ true → At l s (within (brackets b)) (i + 1)
     text-bracket b i here h =
-        let x-is : byteAt s i ≡ 93 = eqb-true (byteAt s i) 93 (has-byte (is 93) s i h) in
+        let x-is : byteAt s i ≡ 93 = byte-is 93 s i h in
         let not-60 : is 60 (byteAt s i) ≡ false = ap (is 60) x-is in
         at-has l s (is 93) i here h (text-free b i (has-in (is 60) s i (has-lt (is 93) s i h) ∙ not-60)) (rw (not-60, has-byte (is 93) s i h))
 
@@ -139,7 +139,7 @@ module _ (l : Limits) (s : List ℕ) where
     text-dead b i here h t =
         let h1 : has (is 93) s (i + 1) ≡ true = both-first (has (is 93) s (i + 1)) (has (is 62) s (i + 2)) t in
         let h2 : has (is 62) s (i + 2) ≡ true = both-second (has (is 93) s (i + 1)) (has (is 62) s (i + 2)) t in
-        let x-is : byteAt s (i + 2) ≡ 62 = eqb-true (byteAt s (i + 2)) 62 (has-byte (is 62) s (i + 2) h2) in
+        let x-is : byteAt s (i + 2) ≡ 62 = byte-is 62 s (i + 2) h2 in
         let there = text-bracket (brackets b) (i + 1) (text-bracket b i here h) h1 in
         (within (brackets (brackets b)), subst (At l s (within (brackets (brackets b)))) (omega arith) there, dies (has-lt (is 62) s (i + 2) h2) (rw x-is (dead-at b)))
       where

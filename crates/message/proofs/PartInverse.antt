@@ -15,12 +15,12 @@ use Rattle.message.specs.Limits.{Limits}
 use Rattle.message.specs.Readable.{MarkupMayBegin, FirstPart, of-start, of-end, of-attribute, PartStands}
 use Rattle.message.specs.Readable as readable
 use Rattle.message.proofs.Laws.{both-second, has-out, has-lt, has-byte, ends-more, ends-stop, ends-from, fails-byte}
+use Rattle.message.proofs.Ways.{goes-dead, goes-same}
 use Rattle.message.proofs.Bytes.{Letter, name-letter, colon-letter, letter-not, letter-solid, colon-no-start, colon-no-name}
 use Rattle.message.proofs.Automaton.{Ground, first, before, behind, inside, State, ground, opened, name, colon, inTag, attribute, attributeColon, dead, goes, only, closing, step}
 use Rattle.message.proofs.Dues.{isBehind, long, due, At}
 use Rattle.message.proofs.GoingStarts.{names}
 use Rattle.message.proofs.Alive.{state-one, alive-before}
-use Rattle.message.proofs.Accepted.{goes-same}
 use Rattle.message.proofs.TagInverse.{OpenedAt, opened-at, goes-at, tag-inverse}
 
 -- ---- what the states before a name do on a byte of a name or a colon
@@ -124,9 +124,9 @@ unfolding classOf
 slash-closes g x next h q = go g (subst (λ (y : ℕ). step (opened g) y ≡ goes next) (eqb-true x 47 h) q)
   where
     go : (g : Ground) → step (opened g) 47 ≡ goes next → (v : List ℕ) × (o : List (List ℕ)) × (next ≡ closing v true o)
-    go first e = let z : _≡_ {A = ℕ} 0 1 = cc in absurd (omega arith)
-    go before e = let z : _≡_ {A = ℕ} 0 1 = cc in absurd (omega arith)
-    go behind e = let z : _≡_ {A = ℕ} 0 1 = cc in absurd (omega arith)
+    go first e = absurd (goes-dead (sym e))
+    go before e = absurd (goes-dead (sym e))
+    go behind e = absurd (goes-dead (sym e))
     go (inside b v o) e = (v, o, sym (goes-same e))
 
 first-begun : (l : Limits) (s : List ℕ) (q : ℕ) (st : State) → At l s st q → (at : ℕ) → MarkupMayBegin (take at s) → FirstPart s at q → Begun st
@@ -162,11 +162,11 @@ data Divided (st : State) : Type 0 where
 
 only-goes : (t : Bool) (k next : State) → only t k ≡ goes next → (t ≡ true) × (next ≡ k)
 only-goes true k next e = (refl, sym (goes-same e))
-only-goes false k next e = let z : _≡_ {A = ℕ} 0 1 = cc in absurd (omega arith)
+only-goes false k next e = absurd (goes-dead (sym e))
 
 closing-goes : (v : List ℕ) (f : Bool) (o : List (List ℕ)) (x : ℕ) (next : State) → Letter x → step (closing v f o) x ≡ goes next
     → (w : List ℕ) × (next ≡ closing w (is 58 x) o)
-closing-goes [] f o x next h q = let y : dead ≡ goes next = sym (closed-step f o x h) ∙ q in let z : _≡_ {A = ℕ} 0 1 = cc in absurd (omega arith)
+closing-goes [] f o x next h q = absurd (goes-dead (sym q ∙ closed-step f o x h))
 closing-goes (y ∷ w) f o x next h q =
     let e = only-goes (is y x) (closing w (is 58 y) o) next q in
     (w, e .1 ∙ ap (λ (b : ℕ). closing w (is 58 b) o) (sym (eqb-true x y (e .0))))
@@ -231,9 +231,9 @@ module _ (l : Limits) (s : List ℕ) (p : ℕ) (st : State) (here : At l s st p)
 
   second-divided : (at q : ℕ) → MarkupMayBegin (take at s) → FirstPart s at q → has (is 58) s (ends (isName classOf) s q) ≡ true → p ≡ ends (isName classOf) s q + 1 → Divided st
   second-divided at q may part colon-there p-is =
-      let a = alive-before l s p q st here (omega (arith, ends-from (isName classOf) s q)) in
+      let a = alive-before l s p q st here (omega (arith, ends-from (isName classOf) s q)) .1 in
       divided-at (ends (isName classOf) s q)
-      (over-run (length s) q (a .0) (omega arith) (a .2) (begun (first-begun l s q (a .0) (a .2) at may part)) (omega arith)) colon-there p-is
+      (over-run (length s) q (a .from) (omega arith) (a .here) (begun (first-begun l s q (a .from) (a .here) at may part)) (omega arith)) colon-there p-is
 
 pub part-inverse : (l : Limits) (s : List ℕ) (p : ℕ) (st : State) → At l s st p → (at : ℕ) → MarkupMayBegin (take at s) → PartStands s at p
     → has (isName classOf) s p ≡ true → long l s p ≡ true

@@ -1,10 +1,11 @@
--- No step leads back to the start of a message. Assumes nothing.
+-- No step leads back to the start of a message: the machine is in its first state there, and nowhere else. Assumes nothing.
 use Prim.Native.Nat.{ℕ, zero, suc, _+_, _*_}
-use mathlib.Core.Path.{_≡_, refl, subst}
+use mathlib.Core.Path.{_≡_, refl, sym, _∙_, ap, subst}
 use mathlib.Core.Bool.{Bool, true, false, cond, not, _&&_}
 use mathlib.Core.List.{List, [], _∷_}
 use native.Mathlib.Omega.{arith}
 use lib.Dec.{leb, eqb}
+use Rattle.laws.proofs.Tests.{true-false}
 use Rattle.message.specs.Class.{classOf, between, isStart, isName, isSpace, isText, isPlainNote}
 use Rattle.message.specs.Reading.{is, byteAt, isQuote}
 use Rattle.message.specs.Characters.{secondOfThree, isDigit, digitOf, closes}
@@ -13,7 +14,7 @@ use Rattle.message.specs.Limits.{Limits}
 use Rattle.message.proofs.Laws.{cond-both}
 use Rattle.message.proofs.Automaton.{Test, Ground, first, before, behind, inside, State, ground, opened, expect, blanks, declared, versionQuote, encodingQuote, versioned, encodingName, note, second, ampersand, ampersandA, hash, firstDigit, number, name, colon, inTag, slash, attribute, attributeColon, quote, value, close, Next, dead, goes, only, expecting, rest, after, closing, versionWord, encodingWord, leads, special, betweenTags, named, tag, stepNote, base, numbered, digit, stepAmpersand, stepInTag, step}
 use Rattle.message.proofs.Dues.{isFirst, stateAt, At}
-use Rattle.message.proofs.Ways.{came}
+use Rattle.message.proofs.Ways.{came, goes-same}
 
 -- neither the start nor a state that goes on there
 abbrev Past : State → Type 0
@@ -154,13 +155,23 @@ at-past : (l : Limits) (s : List ℕ) (i : ℕ) (st : State) → At l s st (suc 
 unfolding stateAt
 at-past l s zero st h =
     let c = came l s 0 st h in
-    let here : goes (ground first) ≡ goes (c .from) = c .here in
-    let start : ground first ≡ c .from = cc in
-    subst PastNext (c .by) (subst (λ (from : State). PastNext (step from (byteAt s 0))) start (past-ground first (byteAt s 0)))
+    subst PastNext (c .by) (subst (λ (from : State). PastNext (step from (byteAt s 0))) (goes-same (c .here)) (past-ground first (byteAt s 0)))
 at-past l s (suc i) st h =
     let c = came l s (suc i) st h in
     subst PastNext (c .by) (past-step (c .from) (byteAt s (suc i)) (at-past l s i (c .from) (c .here)))
 
-pub at-first : (l : Limits) (s : List ℕ) (i : ℕ) → At l s (ground first) i → i ≡ 0
-at-first l s zero h = refl
-at-first l s (suc i) h = let q : true ≡ false = at-past l s i (ground first) h in let z : _≡_ {A = ℕ} 0 1 = cc in absurd (omega arith)
+-- so the machine is in its first state before the first byte, and nowhere else
+module _ (l : Limits) (s : List ℕ) (i : ℕ) (g : Ground) (here : At l s (ground g) i) where
+  pub at-first : isFirst g ≡ true → i ≡ 0
+  at-first = go i here
+    where
+      go : (i : ℕ) → At l s (ground g) i → isFirst g ≡ true → i ≡ 0
+      go zero h e = refl
+      go (suc i) h e = absurd (true-false e (at-past l s i (ground g) h))
+
+  pub at-start : i ≡ 0 → isFirst g ≡ true
+  unfolding stateAt
+  at-start none =
+      let same : goes (ground first) ≡ goes (ground g) = sym (ap (stateAt l s) none) ∙ here in
+      let start : first ≡ g = cc in
+      ap isFirst (sym start)

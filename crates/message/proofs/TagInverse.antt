@@ -70,18 +70,18 @@ module _ (l : Limits) (s : List ℕ) (p : ℕ) (st : State) (here : At l s st p)
 
   pub opened-at : (at : ℕ) → MarkupMayBegin (take at s) → has (is 60) s at ≡ true → at < p → OpenedAt at
   opened-at at may tag less =
-      let a = alive-before l s p at st here less in
-      let g = may-ground l s at (a .0) (a .2) may in
-      let marked : At l s (ground (g .0)) at = subst (λ (x : State). At l s x at) (g .1) (a .2) in
-      let free : due l s (ground (g .0)) at ≡ false = subst (λ (x : State). due l s x at ≡ false) (g .1) (a .3) in
+      let a = alive-before l s p at st here less .1 in
+      let g = may-ground l s at (a .from) (a .here) may in
+      let marked : At l s (ground (g .0)) at = subst (λ (x : State). At l s x at) (g .1) (a .here) in
+      let free : due l s (ground (g .0)) at ≡ false = subst (λ (x : State). due l s x at ≡ false) (g .1) (a .free) in
       record { from = g .0; marked = marked; free = free; behind = at-has l s (is 60) at marked tag free (rw (has-byte (is 60) s at tag)) }
 
   -- the machine goes on there
   pub goes-at : (i : ℕ) (x : State) → At l s x i → i < p → (due l s x i ≡ false) × ((next : State) × (step x (byteAt s i) ≡ goes next) × At l s next (i + 1))
   goes-at i x at-i less =
       let a = alive-before l s p i st here less in
-      let same : a .0 ≡ x = state-one l s i (a .0) x (a .2) at-i in
-      (subst (λ (y : State). due l s y i ≡ false) same (a .3), (a .1, subst (λ (y : State). step y (byteAt s i) ≡ goes (a .1)) same (a .4), a .5))
+      let same : a .1 .from ≡ x = state-one l s i (a .1 .from) x (a .1 .here) at-i in
+      (subst (λ (y : State). due l s y i ≡ false) same (a .1 .free), (a .0, subst (λ (y : State). step y (byteAt s i) ≡ goes (a .0)) same (a .1 .by), a .2))
 
   module _ (at : ℕ) (o : OpenedAt at) (tag : has (is 60) s at ≡ true) (starts : has (isStart classOf) s (at + 1) ≡ true) (less : at + 1 < p) where
     none : (b : ℕ) → isStart classOf b ≡ false → has (is b) s (at + 1) ≡ false
