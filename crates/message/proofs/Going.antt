@@ -83,6 +83,15 @@ module _ (l : Limits) (s : List ℕ) where
   pub at-has : {st next : State} (test : ℕ → Bool) (i : ℕ) → At l s st i → has test s i ≡ true → due l s st i ≡ false → step st (byteAt s i) ≡ goes next → At l s next (i + 1)
   at-has test i here h free goes-on = at-step i here (has-lt test s i h) free goes-on
 
+  -- a state that the message may not end in, and that no byte leads on from
+  pub stuck-here : {st : State} {i : ℕ} → At l s st i → mayEnd st ≡ false → (i < length s → step st (byteAt s i) ≡ dead) → Stuck 9 i
+  stuck-here {st = st} {i = i} here more dying =
+      (st, here,
+      elim (decLt i (length s)) [
+        | yes inside ↦ dies inside (dying inside)
+        | no out ↦ cut (omega arith) more
+      ])
+
   -- one byte, which is the only way on
   pub outcome-one : {st : State} (next : State) (test : ℕ → Bool) (i : ℕ) → At l s st i → mayEnd st ≡ false
       → (has test s i ≡ true → due l s st i ≡ false) → (has test s i ≡ true → step st (byteAt s i) ≡ goes next) → (i < length s → has test s i ≡ false → step st (byteAt s i) ≡ dead)
@@ -91,12 +100,7 @@ module _ (l : Limits) (s : List ℕ) where
     where
       go : (t : Bool) → has test s i ≡ t → Outcome (λ e. At l s next e × (e ≡ i + 1)) (one test s i)
       go true h = rw (one-yes test s i h) (at-has test i here h (free h) (passes h), refl)
-      go false h =
-          rw (one-no test s i h)
-          (elim (decLt i (length s)) [
-            | yes inside ↦ (st, here, dies inside (fails inside h))
-            | no out ↦ (st, here, cut (omega arith) goes-on)
-          ])
+      go false h = rw (one-no test s i h) (stuck-here here goes-on (λ inside. fails inside h))
 
   -- as many bytes as pass a test and leave the machine where it is
   module _ {st : State} (test : ℕ → Bool) (free : (i : ℕ) → has test s i ≡ true → due l s st i ≡ false) (stays : (x : ℕ) → test x ≡ true → step st x ≡ goes st) where

@@ -25,8 +25,8 @@ use Rattle.message.proofs.Progress.{past-whole}
 use Rattle.message.proofs.Trees.{past-quoted, past-fresh}
 use Rattle.message.proofs.Automaton.{State, ground, inside, inTag, slash, attribute, attributeColon, quote, value, blanks, exact, Next, dead, goes, only, step, equals, stepBlanks, stepInTag, stepAttribute}
 use Rattle.message.proofs.Dues.{long, due, At}
-use Rattle.message.proofs.Going.{MarkedAt, Crowd, Roomy, Stuck, crowded, Outcome, outcome-then, outcome-as, outcome-one, at-has, at-ends}
-use Rattle.message.proofs.Acting.{stuck-here, Acts, acts-has, acts-stuck, acts-one, acts-as, acts-at, acts-blanks}
+use Rattle.message.proofs.Going.{MarkedAt, Crowd, Roomy, Stuck, crowded, Outcome, outcome-then, outcome-as, outcome-one, at-has, at-ends, stuck-here}
+use Rattle.message.proofs.Acting.{Acts, acts-has, acts-stuck, acts-one, acts-as, acts-at, acts-blanks}
 use Rattle.message.proofs.GoingQuotes.{Quoting, going-opened}
 use Rattle.message.proofs.GoingText.{going-value}
 use Rattle.message.proofs.GoingNames.{Naming, Before, NameRead, NameBefore, going-name}

@@ -21,8 +21,8 @@ use Rattle.message.proofs.Facts.{whole-is}
 use Rattle.message.proofs.Words.{word-first, word-ends}
 use Rattle.message.proofs.Automaton.{exact, exactly, first, before, State, ground, opened, expect, blanks, declared, versionQuote, encodingQuote, versioned, encodingName, Next, dead, goes, step, expecting, equals, versionWord, encodingWord, declaredEnd}
 use Rattle.message.proofs.Dues.{due, At}
-use Rattle.message.proofs.Going.{Stuck, Outcome, outcome-then, outcome-as, outcome-one, outcome-expect, outcome-word, at-has, at-ends}
-use Rattle.message.proofs.Acting.{stuck-here, Acts, acts-at}
+use Rattle.message.proofs.Going.{Stuck, Outcome, outcome-then, outcome-as, outcome-one, outcome-expect, outcome-word, at-has, at-ends, stuck-here}
+use Rattle.message.proofs.Acting.{Acts, acts-at}
 use Rattle.message.proofs.GoingQuotes.{Quoting, Opened, going-opened, going-blanks-word}
 use Rattle.message.proofs.Ways.{at-within}
 

@@ -27,8 +27,7 @@ use Rattle.message.proofs.Facts.{Starts, start-starts}
 use Rattle.message.proofs.Shapes.{Shape, name-shape}
 use Rattle.message.proofs.Automaton.{Ground, first, before, behind, inside, State, ground, opened, Next, dead, goes, step, after, closing, betweenTags}
 use Rattle.message.proofs.Dues.{isBehind, isFirst, depth, due, At, stateAt}
-use Rattle.message.proofs.Going.{opens, dies, Outcome, outcome-then, outcome-as, at-has}
-use Rattle.message.proofs.Acting.{stuck-here}
+use Rattle.message.proofs.Going.{opens, dies, Outcome, outcome-then, outcome-as, at-has, stuck-here}
 use Rattle.message.proofs.GoingText.{Safe, going-text}
 use Rattle.message.proofs.GoingMarkup.{going-bang, Outer, Around, going-around}
 use Rattle.message.proofs.GoingDeclaration.{going-declaration}

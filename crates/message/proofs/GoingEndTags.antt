@@ -23,8 +23,7 @@ use Rattle.message.proofs.Words.{word-first}
 use Rattle.message.proofs.Shapes.{Shape, single, double}
 use Rattle.message.proofs.Automaton.{State, close, blanks, exact, Next, dead, goes, only, step, after, closing}
 use Rattle.message.proofs.Dues.{long, due, At}
-use Rattle.message.proofs.Going.{MarkedAt, Part, Stuck, longs, Outcome, outcome-then, outcome-as, outcome-one, at-has, at-ends}
-use Rattle.message.proofs.Acting.{stuck-here}
+use Rattle.message.proofs.Going.{MarkedAt, Part, Stuck, longs, Outcome, outcome-then, outcome-as, outcome-one, at-has, at-ends, stuck-here}
 
 -- all bytes of a part are bytes of names
 abbrev pub AllName : List ℕ → Type 0

@@ -21,8 +21,8 @@ use Rattle.message.proofs.Parts.{part-more}
 use Rattle.message.proofs.Runs.{ends-fails, byte-is, start-name, start-in-name}
 use Rattle.message.proofs.Automaton.{State, Next, dead, goes, only, step}
 use Rattle.message.proofs.Dues.{mayEnd, long, longPart, due, At}
-use Rattle.message.proofs.Going.{MarkedAt, Part, Roomy, Stuck, longs, Outcome, outcome-then, at-has}
-use Rattle.message.proofs.Acting.{stuck-here, Acts, acts-at, acts-one}
+use Rattle.message.proofs.Going.{MarkedAt, Part, Roomy, Stuck, longs, Outcome, outcome-then, at-has, stuck-here}
+use Rattle.message.proofs.Acting.{Acts, acts-at, acts-one}
 
 module _ (l : Limits) (s : List ℕ) where
   -- the states in which a name is read: in its first part or its second, with what was read of it, and behind the colon

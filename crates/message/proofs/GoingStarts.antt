@@ -20,8 +20,8 @@ use Rattle.message.proofs.Parts.{part-one}
 use Rattle.message.proofs.Bytes.{colon-no-name}
 use Rattle.message.proofs.Automaton.{Ground, first, before, behind, inside, State, ground, opened, name, colon, inTag, slash, Next, dead, goes, step, after, named, tag, betweenTags, stepInTag}
 use Rattle.message.proofs.Dues.{isBehind, depth, opening, long, due, At}
-use Rattle.message.proofs.Going.{deep, Stuck, Outcome, outcome-then, outcome-as, outcome-one, at-has}
-use Rattle.message.proofs.Acting.{stuck-here, Acts, acts-at, acts-as}
+use Rattle.message.proofs.Going.{deep, Stuck, Outcome, outcome-then, outcome-as, outcome-one, at-has, stuck-here}
+use Rattle.message.proofs.Acting.{Acts, acts-at, acts-as}
 use Rattle.message.proofs.GoingNames.{Naming, NameRead, NameBefore, going-name}
 use Rattle.message.proofs.GoingAttributes.{Tagged, EndsAt, going-attributes}
 

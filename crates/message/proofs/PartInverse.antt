@@ -15,6 +15,7 @@ use Rattle.message.specs.Limits.{Limits}
 use Rattle.message.specs.Readable.{MarkupMayBegin, FirstPart, of-start, of-end, of-attribute, PartStands}
 use Rattle.message.specs.Readable as readable
 use Rattle.message.proofs.Laws.{both-second, has-out, has-lt, has-byte, ends-more, ends-stop, ends-from, fails-byte}
+use Rattle.message.proofs.Runs.{byte-is}
 use Rattle.message.proofs.Ways.{goes-dead, goes-same}
 use Rattle.message.proofs.Bytes.{Letter, name-letter, colon-letter, letter-not, letter-solid, colon-no-start, colon-no-name}
 use Rattle.message.proofs.Automaton.{Ground, first, before, behind, inside, State, ground, opened, name, colon, inTag, attribute, attributeColon, dead, goes, only, closing, step}
@@ -227,7 +228,7 @@ module _ (l : Limits) (s : List ℕ) (p : ℕ) (st : State) (here : At l s st p)
       go : (next : State) × (step (y .0) (byteAt s e) ≡ goes next) × At l s next (e + 1) → Divided st
       go b =
           subst Divided (sym (state-one l s p st (b .0) here (subst (At l s (b .0)) (sym p-is) (b .2))))
-          (colon-goes (y .0) (b .0) (y .2) (ap (step (y .0)) (sym (eqb-true (byteAt s e) 58 (has-byte (is 58) s e colon-there))) ∙ b .1))
+          (colon-goes (y .0) (b .0) (y .2) (ap (step (y .0)) (sym (byte-is 58 s e colon-there)) ∙ b .1))
 
   second-divided : (at q : ℕ) → MarkupMayBegin (take at s) → FirstPart s at q → has (is 58) s (ends (isName classOf) s q) ≡ true → p ≡ ends (isName classOf) s q + 1 → Divided st
   second-divided at q may part colon-there p-is =
