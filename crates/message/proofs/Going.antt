@@ -119,13 +119,14 @@ module _ (l : Limits) (s : List ℕ) where
   -- ---- a word
 
   -- one byte that has to come
-  pub outcome-expect : (b : ℕ) (ts : List Test) (k : State) (i : ℕ) → At l s (expect (exact b) ts k) i → Outcome (λ e. At l s (expecting ts k) e × (e ≡ i + 1)) (one (is b) s i)
-  outcome-expect b ts k i here =
-      outcome-one (expecting ts k) (is b) i here refl (λ h. refl) (λ h. rw (has-byte (is b) s i h)) (λ inside h. rw (fails-byte (is b) s i inside h))
+  pub outcome-expect : (t : Test) (ts : List Test) (k : State) (i : ℕ) → At l s (expect t ts k) i → Outcome (λ e. At l s (expecting ts k) e × (e ≡ i + 1)) (one (t .passes) s i)
+  outcome-expect t ts k i here =
+      outcome-one (expecting ts k) (t .passes) i here refl (λ h. refl) (λ h. rw (has-byte (t .passes) s i h))
+      (λ inside h. rw (fails-byte (t .passes) s i inside h))
 
   pub outcome-word : (w : List ℕ) (ts : List Test) (k : State) (i : ℕ) → At l s (expecting (exactly w ++ ts) k) i → Outcome (λ e. At l s (expecting ts k) e) (wordAt w s i)
   unfolding wordAt
   outcome-word [] ts k i here = here
   outcome-word (b ∷ w) ts k i here =
       outcome-then (λ e. At l s (expecting (exactly w ++ ts) k) e × (e ≡ i + 1)) (λ e. At l s (expecting ts k) e) (wordAt w s) (one (is b) s i)
-      (outcome-expect b (exactly w ++ ts) k i here) (λ e q h. outcome-word w ts k e (h .0))
+      (outcome-expect (exact b) (exactly w ++ ts) k i here) (λ e q h. outcome-word w ts k e (h .0))

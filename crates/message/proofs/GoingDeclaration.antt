@@ -73,7 +73,7 @@ module _ (l : Limits) (s : List ℕ) where
   unfolding closedAt
   going-closed from to k some here order =
       rw (lt-ltb 0 from some, le-leb from (length s) (omega (arith, at-within l s to _ here)))
-      (outcome-as l s _ _ (one (is (byteAt s (from - 1))) s to) (outcome-expect l s (byteAt s (from - 1)) [] k to here) (λ e q h. h .0))
+      (outcome-as l s _ _ (one (is (byteAt s (from - 1))) s to) (outcome-expect l s (exact (byteAt s (from - 1))) [] k to here) (λ e q h. h .0))
 
   -- ---- the encoding
 

@@ -13,26 +13,25 @@ use Rattle.message.specs.Text.{specialAt, bracketAt, beyondPlainInAt, be
 use Rattle.message.specs.Characters.{longAt}
 use Rattle.message.specs.Limits.{Limits}
 use Rattle.message.proofs.Laws.{cond-cases, both-first, both-second, has-in, has-lt, has-byte, has-out, ends-from, ends-more, ends-stop, fails-byte}
+use Rattle.message.proofs.Acting.{Acts, acting, acts-at, acts-has, acts-as, acts-only}
 use Rattle.message.proofs.Bytes.{other-than, has-other, quote-no-plain, tag-no-plain, bracket-no-plain, plain-text, note-no-hyphen}
 use Rattle.message.proofs.Runs.{ends-fails, byte-is}
 use Rattle.message.proofs.Progress.{beyond-plain-in-on, beyond-plain-on, beyond-note-on}
 use Rattle.message.proofs.Automaton.{inside, State, ground, note, value, dead, goes, step, leads, special, brackets}
 use Rattle.message.proofs.Dues.{due, At}
 use Rattle.message.proofs.Going.{dies, cut, Stuck, Outcome, outcome-then, outcome-as, at-has, at-ends}
-use Rattle.message.proofs.GoingCharacters.{Steps, Behind, going-one, going-long, going-special}
+use Rattle.message.proofs.GoingCharacters.{Behind, going-long, going-special}
 
 module _ (l : Limits) (s : List ℕ) where
   -- ---- what is no plain text, up to the place behind it
 
-  going-beyond-in : (k : State) {st : State} (i : ℕ) → Steps l s st i (cond (isText classOf (byteAt s i)) (goes k) (special k (byteAt s i))) → Outcome l s (λ e. At l s k e) (beyondPlainInAt classOf s i)
+  going-beyond-in : (k : State) (i : ℕ) → Acts l s (λ x. cond (isText classOf x) (goes k) (special k x)) i → Outcome l s (λ e. At l s k e) (beyondPlainInAt classOf s i)
   unfolding beyondPlainInAt
-  going-beyond-in k i here =
+  going-beyond-in k i acts =
       cond-cases (Outcome l s (λ e. At l s k e)) (has (isText classOf) s i)
-      (λ t.
-      let below = has-lt (isText classOf) s i t in
-      at-has l s (isText classOf) i (here .0) t (here .2) (here .3 below ∙ rw (has-byte (isText classOf) s i t))) (λ t.
+      (λ t. acts-has l s acts (isText classOf) t (rw (has-byte (isText classOf) s i t))) (λ t.
       outcome-then l s (Behind l s k) (λ e. At l s k e) _ (specialAt s i)
-      (going-special l s k i (here .0) (here .1) (here .2) (λ below. here .3 below ∙ rw (fails-byte (isText classOf) s i below t))) (λ c q h. h))
+      (going-special l s k i (acts-as l s acts _ (λ below. rw (fails-byte (isText classOf) s i below t)))) (λ c q h. h))
 
   -- ---- values
 
@@ -53,7 +52,7 @@ module _ (l : Limits) (s : List ℕ) where
       let further : i ≤ stop = ends-from (isPlain classOf) s i in
       cond-cases (Outcome l s (Quoted q st)) (has (is q) s stop) (λ t. (there, t)) (λ t.
       outcome-then l s (λ e. At l s st e) (Quoted q st) (valueAt classOf fuel q s) (beyondPlainInAt classOf s stop)
-      (going-beyond-in st stop (there, refl, refl, λ below. rw (fails-byte (is q) s stop below t))) (λ e w h.
+      (going-beyond-in st stop (acting l s there refl refl (λ below. rw (fails-byte (is q) s stop below t)))) (λ e w h.
       going-value q quotes n seen o fuel e (omega (arith, beyond-plain-in-on s stop classOf e w)) h))
 
   -- ---- text between tags
@@ -154,7 +153,7 @@ module _ (l : Limits) (s : List ℕ) where
         cond-cases (Outcome l s Text) (has (is 93) s (i + 1) && has (is 62) s (i + 2)) (λ u. text-dead (here .0) i (here .2) t u)
         (λ u. (brackets (here .0), bracket-safe (here .0) i (here .1) t u, text-bracket (here .0) i (here .2) t))) (λ t.
         outcome-as l s (λ e. At l s (within 0) e) Text (beyondPlainInAt classOf s i)
-        (going-beyond-in (within 0) i (here .2, refl, text-free (here .0) i h, text-step (here .0) i (here .1) h t)) (λ e q g. (0, tt, g)))
+        (going-beyond-in (within 0) i (acting l s (here .2) refl (text-free (here .0) i h) (text-step (here .0) i (here .1) h t))) (λ e q g. (0, tt, g)))
 
   pub going-text : (v : List ℕ) (o : List (List ℕ)) (fuel b i : ℕ) → length s ≤ fuel + i → Safe b i → At l s (ground (inside b v o)) i → Outcome l s (λ e. (b′ : ℕ) × At l s (ground (inside b′ v o)) e × (has (is 60) s e ≡ true)) (textAt classOf fuel s i)
   unfolding textAt
@@ -217,7 +216,7 @@ module _ (l : Limits) (s : List ℕ) where
         subst (At l s (note 2 k)) (omega arith)
         (at-has l s (is 45) (i + 1) (note-hyphen (here .0) i (here .1) (here .2) h1) h2 refl (rw (has-byte (is 45) s (i + 1) h2))) in
         outcome-as l s (λ e. At l s k e × (e ≡ i + 2 + 1)) (λ e. At l s k e) (one (is 62) s (i + 2))
-        (going-one l s k (is 62) (i + 2) (there, refl, refl, λ below. refl)) (λ e q h. h .0)
+        (acts-only l s k (is 62) (i + 2) (acts-at l s (note 2 k) (i + 2) there refl refl)) (λ e q h. h .0)
 
     -- what is no plain byte
     note-beyond : (i : ℕ) → Noted i → has (isPlainNote classOf) s i ≡ false → hyphensAt s i ≡ false → Outcome l s Noted (beyondNoteAt s i)
@@ -225,8 +224,8 @@ module _ (l : Limits) (s : List ℕ) where
     note-beyond i here none single =
         cond-cases (Outcome l s Noted) (has (is 45) s i) (λ t. (1, rw t at single, note-hyphen (here .0) i (here .1) (here .2) t)) (λ t.
         outcome-then l s (Behind l s (note 0 k)) Noted _ (longAt s i)
-        (going-long l s (note 0 k) i (here .2) refl refl
-        (λ below. note-step (here .0) i (here .1) t below ∙ rw (fails-byte (isPlainNote classOf) s i below none))) (λ c q h. (0, tt, h)))
+        (going-long l s (note 0 k) i (acting l s (here .2) refl refl
+        (λ below. note-step (here .0) i (here .1) t below ∙ rw (fails-byte (isPlainNote classOf) s i below none)))) (λ c q h. (0, tt, h)))
 
     note-loop : (fuel i : ℕ) → length s ≤ fuel + i → Noted i → Outcome l s (λ e. At l s k e) (commentAt classOf fuel s i)
     unfolding commentAt
