@@ -17,10 +17,9 @@ use Rattle.message.specs.Reading.Reading.{whole, refused}
 use Rattle.message.specs.Limits.{Limits}
 use Rattle.message.specs.Elements.{Element, declaredOf, rootAt, documentAt}
 use Rattle.message.specs.Readable.{Readable, Continues, aComment, MarkupMayBegin}
-use Rattle.message.specs.Raised.{OutOfTheWay}
-use Rattle.message.proofs.Automaton.{Ground, first, before, behind, inside, State, ground, Next, dead, goes, step, rest, steps}
-use Rattle.message.proofs.Dues.{mayEnd, isFirst, At}
-use Rattle.message.proofs.Going.{MarkedAt, Cause, dies, cut, deep, crowded, opens, longs, Stuck, Outcome}
+use Rattle.message.proofs.Automaton.{Ground, first, behind, State, ground, Next, dead, goes, step, rest, steps}
+use Rattle.message.proofs.Dues.{mayEnd, At}
+use Rattle.message.proofs.Going.{MarkedAt, Cause, dies, cut, deep, crowded, opens, longs, Outcome}
 use Rattle.message.proofs.GoingElements.{going-document}
 use Rattle.message.proofs.Raising.{document-rest}
 use Rattle.message.proofs.Endings.{finish, finishes}

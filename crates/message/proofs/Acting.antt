@@ -1,19 +1,17 @@
 -- The machine behind the first i bytes, where nothing is due, known only by what it does with the byte there: so a state and those that behave like it are told
 -- apart no further. And white space before a byte. Assumes nothing.
-use Prim.Native.Nat.{ℕ, zero, suc, _+_, _<_, _≤_}
-use mathlib.Core.Path.{_≡_, refl, sym, _∙_}
+use Prim.Native.Nat.{ℕ, _+_, _<_}
+use mathlib.Core.Path.{_≡_, refl, _∙_}
 use mathlib.Core.Bool.{Bool, true, false}
 use mathlib.Core.List.{List}
-use native.Mathlib.Decide.{decLt}
-use native.Mathlib.Omega.{arith}
 use lib.ListN.{length}
 use Rattle.message.specs.Class.{classOf, isSpace}
-use Rattle.message.specs.Reading.{Reading, byteAt, has, one, ends}
+use Rattle.message.specs.Reading.{byteAt, has, one, ends}
 use Rattle.message.specs.Limits.{Limits}
-use Rattle.message.proofs.Laws.{has-in, has-out, has-lt, has-byte, one-yes, one-no, ends-more, ends-stop, fails-byte}
+use Rattle.message.proofs.Laws.{has-lt, has-byte, ends-more, ends-stop, fails-byte}
 use Rattle.message.proofs.Automaton.{State, Next, dead, goes, step, only}
 use Rattle.message.proofs.Dues.{mayEnd, due, At}
-use Rattle.message.proofs.Going.{Stuck, dies, cut, Outcome, at-step, at-has, at-ends, stuck-here, outcome-one}
+use Rattle.message.proofs.Going.{Stuck, Outcome, at-has, at-ends, stuck-here, outcome-one}
 
 module _ (l : Limits) (s : List ℕ) where
   -- the machine is in the message or at its end, nothing is due, and it does what f does

@@ -1,19 +1,18 @@
 -- Where the machine has come to a place, it went through every place before it, with nothing due there. So no cause of a refusal stands before. Assumes nothing.
 use Prim.Native.Nat.{ℕ, zero, suc, _+_, _<_}
-use mathlib.Core.Path.{_≡_, refl, sym, _∙_, ap, subst}
-use mathlib.Core.Bool.{Bool, true, false, cond, not, _&&_, _||_, Bool·not-not, true≢false, or-true as or-yes}
+use mathlib.Core.Path.{_≡_, sym, _∙_, ap, subst}
+use mathlib.Core.Bool.{false, true≢false, or-true as or-yes}
 use mathlib.Core.List.{List}
 use native.Mathlib.Numerals.{add-one}
 use native.Mathlib.Decide.{decLt}
 use native.Mathlib.Omega.{arith}
 use lib.ListN.{length}
-use lib.Dec.{ltb}
-use borrow.Author.Tests.{le-leb, ltb-true}
+use borrow.Author.Tests.{le-leb}
 use Rattle.message.specs.Reading.{byteAt}
 use Rattle.message.specs.Limits.{Limits}
-use Rattle.message.proofs.Laws.{and-true, or-true, both-first, both-second}
-use Rattle.message.proofs.Automaton.{State, Next, dead, goes, step}
-use Rattle.message.proofs.Dues.{opening, tooDeep, long, due, further, stateAt, At}
+use Rattle.message.proofs.Laws.{and-true, or-true}
+use Rattle.message.proofs.Automaton.{State, goes, step}
+use Rattle.message.proofs.Dues.{opening, tooDeep, long, due, At}
 use Rattle.message.proofs.Ways.{goes-dead, goes-same, Came, came}
 use Rattle.message.proofs.Going.{Cause, dies, cut, deep, crowded, opens, longs, Stuck}
 

@@ -1,31 +1,30 @@
 -- The machine does not go past a place where a refusal is due. Assumes nothing.
-use Prim.Native.Nat.{ℕ, suc, _+_, _-_, _<_, _≤_}
+use Prim.Native.Nat.{ℕ, _+_, _-_, _<_}
 use mathlib.Core.Path.{_≡_, refl, sym, _∙_, ap, subst}
-use mathlib.Core.Logic.{_⊎_, ⊎-elim, inl, inr}
-use mathlib.Core.Bool.{Bool, true, false, not, _&&_, _||_, true≢false}
-use mathlib.Core.List.{List, [], _∷_, _++_}
+use mathlib.Core.Logic.{⊎-elim}
+use mathlib.Core.Bool.{true, false, not, true≢false}
+use mathlib.Core.List.{List, _++_}
 use native.Mathlib.Omega.{arith}
 use lib.ListN.{length, take}
-use lib.Dec.{ltb, leb, eqb}
 use borrow.Author.Tests.{lt-ltb, le-leb}
 use Rattle.laws.proofs.Tests.{or-last}
-use Rattle.message.specs.Class.{classOf, isStart, isName, isSpace}
+use Rattle.message.specs.Class.{classOf, isStart, isName}
 use Rattle.message.specs.Reading.{is, byteAt, has, ends}
 use Rattle.message.specs.Reading as reading
-use Rattle.message.specs.Limits.{Limits, linkLimits}
-use Rattle.message.specs.Readable.{Readable, Continues, MarkupMayBegin, endTags, Open, TagStands, PartStands}
+use Rattle.message.specs.Limits.{linkLimits}
+use Rattle.message.specs.Readable.{Continues, MarkupMayBegin, endTags, Open, PartStands}
 use Rattle.message.specs.Due.{Opening, Due, dead, unfinished, level, attribute, opening, long}
-use Rattle.message.proofs.Laws.{and-true, or-true, has-lt}
-use Rattle.message.proofs.Automaton.{Ground, first, before, behind, inside, State, ground, inTag, Next, goes, step, steps}
+use Rattle.message.proofs.Laws.{or-true}
+use Rattle.message.proofs.Automaton.{Ground, first, before, behind, inside, State, ground, inTag, goes, step, steps}
 use Rattle.message.proofs.Automaton as automaton
 use Rattle.message.proofs.Dues as dues
-use Rattle.message.proofs.Dues.{isBehind, isFirst, depth, tooDeep, due, Here}
+use Rattle.message.proofs.Dues.{isBehind, depth, tooDeep, due, Here}
 use Rattle.message.proofs.Accepted.{steps-from, readable-ends, goes-continues, may-ground}
 use Rattle.message.proofs.Sound.{sane-at}
 use Rattle.message.proofs.Inverse.{open-depth}
 use Rattle.message.proofs.Past.{at-first}
 use Rattle.message.proofs.Ways.{steps-at, goes-dead}
-use Rattle.message.proofs.Spelling.{stands-opening, spelled-first}
+use Rattle.message.proofs.Spelling.{stands-opening}
 use Rattle.message.proofs.Causes.{long-name}
 use Rattle.message.proofs.TagInverse.{tag-inverse}
 use Rattle.message.proofs.PartInverse.{part-inverse}

@@ -1,25 +1,23 @@
 -- The attributes of a start tag that was read: what is found under a name is what the tag carries (specs/Seven), and the reverse. Assumes nothing.
-use Prim.Native.Nat.{ℕ, zero, suc, _+_, _-_}
+use Prim.Native.Nat.{ℕ, zero, suc, _+_}
 use mathlib.Core.Path.{_≡_, refl, sym, _∙_, ap, subst}
 use mathlib.Core.Logic.{_⊎_, inl, inr, ⊎-elim}
 use mathlib.Core.Bool.{Bool, true, false, cond}
 use mathlib.Core.List.{List, _∷_}
-use lib.Dec.{ltb, eqb}
-use borrow.Author.Tests.{eqb-true}
 use Rattle.laws.specs.Bytes.{sameBytes}
-use Rattle.laws.proofs.Tests.{true-false, never, either}
+use Rattle.laws.proofs.Tests.{true-false, never}
 use Rattle.laws.proofs.Tails.{same-refl, same-eq}
-use Rattle.message.specs.Class.{classOf, isStart, isName, isSpace}
-use Rattle.message.specs.Reading.{Reading, _>>=_, is, has, one, ends, byteAt, blanks}
-use Rattle.message.specs.Reading.Reading.{whole, refused}
-use Rattle.message.specs.Names.{Named, shortAt, partAt, nameAt}
+use Rattle.message.specs.Class.{classOf, isStart, isSpace}
+use Rattle.message.specs.Reading.{Reading, _>>=_, has, ends, blanks}
+use Rattle.message.specs.Reading.Reading.{whole}
+use Rattle.message.specs.Names.{Named, nameAt}
 use Rattle.message.specs.Limits.{Limits}
 use Rattle.message.specs.Elements.{part, Quoted, endsTag, quotedAt, freshAt, attributesAt}
 use Rattle.message.specs.Messages.{attributeCalled}
 use Rattle.message.specs.Readable.{AttributeStands}
 use Rattle.message.specs.Seven.{Carries}
 use Rattle.message.specs.Seven.Carries.{this, later}
-use Rattle.message.proofs.Laws.{cond-true, cond-false, has-byte, one-has}
+use Rattle.message.proofs.Laws.{cond-true, cond-false}
 use Rattle.message.proofs.Trees.{whole-same, unread, fresh-whole}
 use Rattle.message.proofs.Bytes.{has-fails, end-no-start}
 use Rattle.message.proofs.Facts.{then-whole}

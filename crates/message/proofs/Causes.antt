@@ -1,28 +1,28 @@
 -- What the machine's causes are in the words of specs/Due: where the link's reading is refused, that refusal is due there. Assumes nothing.
-use Prim.Native.Nat.{ℕ, suc, _+_, _-_, _<_, _≤_}
+use Prim.Native.Nat.{ℕ, _+_, _-_, _<_}
 use mathlib.Core.Path.{_≡_, refl, sym, _∙_, ap, subst}
-use mathlib.Core.Bool.{Bool, true, false, not, _&&_, _||_, true≢false}
+use mathlib.Core.Bool.{Bool, true, false, not, _&&_}
 use mathlib.Core.List.{List, [], _∷_, _++_}
 use native.Mathlib.Omega.{arith}
 use lib.ListN.{length, take}
 use lib.Seq.{take-all}
-use lib.Dec.{ltb, leb, eqb}
-use borrow.Author.Tests.{ltb-true, leb-true, eqb-true, ne-eqb}
-use Rattle.message.specs.Class.{classOf, isStart, isName, isSpace}
+use lib.Dec.{leb}
+use borrow.Author.Tests.{ltb-true}
+use Rattle.message.specs.Class.{classOf, isStart, isName}
 use Rattle.message.specs.Reading.{is, byteAt, has, ends}
 use Rattle.message.specs.Limits.{linkLimits}
-use Rattle.message.specs.Readable.{Readable, Continues, endTags, EachNameLike, Open, TagStands}
+use Rattle.message.specs.Readable.{Continues, endTags, Open, TagStands}
 use Rattle.message.specs.Due.{Due, dead, unfinished, level, attribute, opening, long}
 use Rattle.message.proofs.Laws.{has-lt, has-byte, both-second, ends-stop}
 use Rattle.message.proofs.Past.{at-start}
 use Rattle.message.proofs.Bytes.{other-than, start-no-space, slash-no-start, greater-no-start}
-use Rattle.message.proofs.Automaton.{Ground, first, before, behind, inside, State, ground, opened, inTag, Next, goes, step, steps}
+use Rattle.message.proofs.Automaton.{Ground, first, before, behind, inside, State, ground, opened, inTag, goes, step}
 use Rattle.message.proofs.Automaton as automaton
-use Rattle.message.proofs.Dues.{isBehind, depth, tooDeep, Here}
-use Rattle.message.proofs.Going.{Crowd, Cause, dies, cut, deep, crowded, opens, longs}
+use Rattle.message.proofs.Dues.{isBehind, depth, Here}
+use Rattle.message.proofs.Going.{Cause, dies, cut, deep, crowded, opens, longs}
 use Rattle.message.proofs.Accepted.{steps-from, ends-readable, at-continues, goes-continues, dead-continues, cut-readable, marked-may}
 use Rattle.message.proofs.Endings.{finishes}
-use Rattle.message.proofs.Sound.{Sane, sane-at}
+use Rattle.message.proofs.Sound.{sane-at}
 use Rattle.message.proofs.Spelling.{opening-stands}
 use Rattle.message.proofs.Ways.{steps-at, at-within}
 

@@ -1,22 +1,22 @@
 -- Proves specs/Places and specs/Earliest: the link's answer is the first refusal that is due. Assumes nothing.
-use Prim.Native.Nat.{ℕ, suc, _+_, _-_, _<_, _≤_}
+use Prim.Native.Nat.{ℕ, _+_, _-_, _<_, _≤_}
 use mathlib.Core.Path.{_≡_, refl, sym, _∙_, ap, subst}
 use mathlib.Core.Logic.{_⊎_, ⊎-elim, inl, inr}
-use mathlib.Core.Bool.{Bool, true, false, cond, not, _&&_, _||_, true≢false}
-use mathlib.Core.List.{List, [], _∷_}
+use mathlib.Core.Bool.{true, cond, true≢false}
+use mathlib.Core.List.{List, []}
 use native.Mathlib.Decide.{decLt}
 use native.Mathlib.Omega.{arith}
 use lib.ListN.{length, take}
-use lib.Dec.{ltb, leb, eqb}
+use lib.Dec.{eqb}
 use borrow.Author.Tests.{lt-ltb, le-leb}
-use Rattle.message.specs.Class.{classOf, isStart, isName, isSpace}
-use Rattle.message.specs.Reading.{Reading, _>>=_, is, byteAt, has, ends, blanks}
+use Rattle.message.specs.Class.{classOf, isStart, isName}
+use Rattle.message.specs.Reading.{Reading, is, has, ends, blanks}
 use Rattle.message.specs.Reading.Reading.{whole, refused}
 use Rattle.message.specs.Words.{codes}
 use Rattle.message.specs.Limits.{linkLimits}
 use Rattle.message.specs.Elements.{Element, documentAt}
-use Rattle.message.specs.Messages.{messageAt, messageOf}
-use Rattle.message.specs.Readable.{Readable, Continues, MarkupMayBegin, PartStands}
+use Rattle.message.specs.Messages.{messageAt}
+use Rattle.message.specs.Readable.{Readable, Continues, PartStands}
 use Rattle.message.specs.Due.{Opening, doctype, cdata, instruction, Due, dead, unfinished, level, attribute, opening, long}
 use Rattle.message.specs.Places.{PlaceOfTen, PlaceOfEleven, PlaceOfTwelve, PlaceOfFourteen}
 use Rattle.message.specs.Earliest.{rank, FirstDue, NoneDue, answer, Answered, EarliestWins}

@@ -2,24 +2,24 @@
 -- the way, and where it is refused the machine stands at the place of refusal with its cause. Here is what the files about single readers share.
 -- Assumes nothing.
 use Prim.Native.Nat.{ℕ, zero, suc, _+_, _<_, _≤_}
-use mathlib.Core.Path.{_≡_, refl, sym, _∙_, subst}
-use mathlib.Core.Bool.{Bool, true, false, cond, not, _&&_}
+use mathlib.Core.Path.{_≡_, refl}
+use mathlib.Core.Bool.{Bool, true, false}
 use mathlib.Core.List.{List, [], _∷_, _++_}
 use native.Mathlib.Numerals.{add-one}
 use native.Mathlib.Decide.{decLt}
 use native.Mathlib.Omega.{arith}
 use lib.ListN.{length}
-use lib.Dec.{ltb, leb}
-use borrow.Author.Tests.{lt-ltb, ltb-true}
+use lib.Dec.{leb}
+use borrow.Author.Tests.{lt-ltb}
 use Rattle.message.specs.Class.{classOf, isStart, isSpace}
 use Rattle.message.specs.Reading.{Reading, _>>=_, is, byteAt, has, one, ends, wordAt}
 use Rattle.message.specs.Reading as reading
 use Rattle.message.specs.Reading.Reading.{whole, refused}
 use Rattle.message.specs.Limits.{Limits}
 use Rattle.message.specs.Readable.{TagStands, PartStands}
-use Rattle.message.proofs.Laws.{has-in, has-out, has-lt, has-byte, one-yes, one-no, ends-more, ends-stop, both-first, both-second, fails-byte}
-use Rattle.message.proofs.Automaton.{Test, exact, exactly, Ground, State, ground, expect, inTag, Next, dead, goes, step, expecting}
-use Rattle.message.proofs.Dues.{mayEnd, depth, opening, tooDeep, long, due, further, stateAt, At}
+use Rattle.message.proofs.Laws.{has-out, has-lt, has-byte, one-yes, one-no, ends-more, ends-stop, fails-byte}
+use Rattle.message.proofs.Automaton.{Test, exact, exactly, Ground, State, ground, expect, inTag, dead, goes, step, expecting}
+use Rattle.message.proofs.Dues.{mayEnd, depth, opening, tooDeep, long, due, stateAt, At}
 
 module _ (l : Limits) (s : List ℕ) where
   -- ---- why the machine does not go on

@@ -1,35 +1,35 @@
 -- The machine reads the attributes of a start tag as `attributesAt` does, up to the `/` or `>` behind them. Assumes nothing.
 use Prim.Native.Nat.{ℕ, zero, suc, _+_, _-_, _<_, _≤_}
 use mathlib.Core.Path.{_≡_, refl, sym, _∙_, ap, subst}
-use mathlib.Core.Bool.{Bool, true, false, cond, not, _&&_, _||_, true≢false}
-use mathlib.Core.List.{List, [], _∷_, _++_}
+use mathlib.Core.Bool.{Bool, true, false, cond, not, _&&_}
+use mathlib.Core.List.{List, [], _∷_}
 use native.Mathlib.Omega.{arith}
 use lib.ListN.{length}
-use lib.Dec.{ltb, leb, eqb}
-use borrow.Author.Tests.{lt-leb, le-leb, ltb-true, ltb-false, eqb-true, ne-eqb}
+use lib.Dec.{ltb, leb}
+use borrow.Author.Tests.{lt-leb, ltb-true, ltb-false}
 use Rattle.laws.proofs.Tests.{neither}
 use Rattle.message.specs.Class.{classOf, isStart, isName, isSpace}
-use Rattle.message.specs.Reading.{Reading, _>>=_, is, byteAt, has, one, ends, isQuote, equalsAt, openedAt}
+use Rattle.message.specs.Reading.{Reading, _>>=_, is, byteAt, has, one, ends, openedAt}
 use Rattle.message.specs.Reading as reading
 use Rattle.message.specs.Reading.Reading.{whole, refused}
 use Rattle.message.specs.Names.{Named, nameAt}
 use Rattle.message.specs.Text.{valueAt}
 use Rattle.message.specs.Limits.{Limits}
 use Rattle.message.specs.Elements.{part, isKnown, endsTag, Quoted, quotedAt, freshAt, attributesAt}
-use Rattle.message.specs.Readable.{AttributesStand, TagStands, of-attribute, first}
-use Rattle.message.proofs.Laws.{cond-cases, or-false, has-lt, has-byte, one-yes, one-no, one-has, ends-more, ends-stop, ends-from, has-in, fails-byte}
+use Rattle.message.specs.Readable.{TagStands, of-attribute, first}
+use Rattle.message.proofs.Laws.{cond-cases, has-lt, has-byte, one-yes, one-no, ends-more, ends-stop, ends-from, has-in, fails-byte}
 use Rattle.message.proofs.Parts.{part-one}
 use Rattle.message.proofs.Bytes.{has-fails, solid-equals, space-no-start, end-no-start, colon-no-name}
 use Rattle.message.proofs.Runs.{ends-fails, byte-is}
 use Rattle.message.proofs.Progress.{past-whole}
 use Rattle.message.proofs.Trees.{past-quoted, past-fresh}
-use Rattle.message.proofs.Automaton.{State, ground, inside, inTag, slash, attribute, attributeColon, quote, value, blanks, exact, Next, dead, goes, only, step, equals, stepBlanks, stepInTag, stepAttribute}
-use Rattle.message.proofs.Dues.{long, due, At}
-use Rattle.message.proofs.Going.{MarkedAt, Crowd, Roomy, Stuck, crowded, Outcome, outcome-then, outcome-as, outcome-one, at-has, at-ends, stuck-here}
-use Rattle.message.proofs.Acting.{Acts, acts-has, acts-stuck, acts-one, acts-as, acts-at, acts-blanks}
+use Rattle.message.proofs.Automaton.{ground, inside, inTag, slash, attribute, attributeColon, quote, value, exact, Next, dead, goes, step, stepBlanks, stepInTag}
+use Rattle.message.proofs.Dues.{At}
+use Rattle.message.proofs.Going.{MarkedAt, Crowd, crowded, Outcome, outcome-then, at-has, at-ends, stuck-here}
+use Rattle.message.proofs.Acting.{Acts, acts-has, acts-stuck, acts-as, acts-at}
 use Rattle.message.proofs.GoingQuotes.{Quoting, going-opened}
 use Rattle.message.proofs.GoingText.{going-value}
-use Rattle.message.proofs.GoingNames.{Naming, Before, NameRead, NameBefore, going-name}
+use Rattle.message.proofs.GoingNames.{Naming, NameRead, NameBefore, going-name}
 
 inTag-seen : {b b′ : Bool} {m m′ : List ℕ} {seen seen′ o o′ : List (List ℕ)} → inTag b m seen o ≡ inTag b′ m′ seen′ o′ → seen ≡ seen′
 inTag-seen e = cc

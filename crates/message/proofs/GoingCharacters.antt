@@ -1,10 +1,9 @@
 -- The machine does what the readers of characters of more than one byte, and of references, do. Assumes nothing.
 use Prim.Native.Nat.{ℕ, zero, suc, _+_, _-_, _*_, _<_, _≤_}
-use mathlib.Core.Path.{_≡_, refl, sym, _∙_, subst}
+use mathlib.Core.Path.{_≡_, refl, subst}
 use mathlib.Core.Bool.{Bool, true, false, cond}
 use mathlib.Core.List.{List, [], _∷_, _++_}
 use native.Mathlib.Omega.{arith}
-use native.Mathlib.Decide.{decLt}
 use lib.ListN.{length}
 use lib.Dec.{leb}
 use Rattle.message.specs.Class.{between}
@@ -12,12 +11,12 @@ use Rattle.message.specs.Reading.{is, byteAt, has, one, wordAt}
 use Rattle.message.specs.Characters.{Character, later, secondOfThree, thirdOfThree, secondOfFour, joined, twoAt, threeAt, lastTwoAt, fourAt, longAt, isDigit, digitOf, digitsAt, closes, numberedAt, standsAt, predefinedAt, referenceAt}
 use Rattle.message.specs.Text.{specialAt}
 use Rattle.message.specs.Limits.{Limits}
-use Rattle.message.proofs.Laws.{cond-cases, has-in, has-lt, has-byte, one-yes, fails-byte}
+use Rattle.message.proofs.Laws.{cond-cases, has-lt, has-byte, one-yes, fails-byte}
 use Rattle.message.proofs.Ways.{numbered-small, numbered-great}
 use Rattle.message.proofs.Acting.{Acts, acting, acts-has, acts-stuck, acts-as, acts-only}
-use Rattle.message.proofs.Automaton.{laterTest, secondFour, thirdThree, exactly, State, expect, second, ampersand, ampersandA, hash, firstDigit, number, Next, dead, goes, step, only, expecting, leads, special, base, numbered, digit}
-use Rattle.message.proofs.Dues.{mayEnd, due, At}
-use Rattle.message.proofs.Going.{dies, cut, Outcome, outcome-then, at-has, outcome-one, outcome-word, outcome-expect}
+use Rattle.message.proofs.Automaton.{laterTest, secondFour, thirdThree, exactly, State, expect, second, ampersand, ampersandA, hash, firstDigit, number, Next, dead, only, expecting, leads, special, base, digit}
+use Rattle.message.proofs.Dues.{At}
+use Rattle.message.proofs.Going.{cut, Outcome, outcome-then, at-has, outcome-word, outcome-expect}
 
 module _ (l : Limits) (s : List ℕ) where
   -- ---- characters of more than one byte

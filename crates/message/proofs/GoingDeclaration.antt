@@ -1,28 +1,27 @@
 -- The machine reads the declaration as `declarationAt` does. Assumes nothing.
 use Prim.Native.Nat.{ℕ, _+_, _-_, _<_, _≤_}
-use mathlib.Core.Path.{_≡_, refl, sym, _∙_, ap, subst}
+use mathlib.Core.Path.{_≡_, refl, sym, _∙_, ap}
 use mathlib.Core.Bool.{Bool, true, false, cond, _&&_, true≢false, and-false}
 use mathlib.Core.List.{List, [], _∷_}
 use native.Mathlib.Omega.{arith}
 use lib.ListN.{length}
-use lib.Dec.{ltb, leb, eqb}
+use lib.Dec.{leb}
 use borrow.Author.Tests.{lt-ltb, le-leb}
 use Rattle.message.specs.Class.{classOf, isStart, isSpace}
-use Rattle.message.specs.Reading.{Reading, _>>=_, isWhole, is, byteAt, has, one, ends, wordAt, isQuote, openedAt, closedAt}
-use Rattle.message.specs.Reading.Reading.{whole, refused}
+use Rattle.message.specs.Reading.{_>>=_, isWhole, is, byteAt, has, one, ends, wordAt, openedAt, closedAt}
+use Rattle.message.specs.Reading.Reading.{whole}
 use Rattle.message.specs.Markup as markup
 use Rattle.message.specs.Markup.{declares, utf8At, encodingAt, declarationAt}
-use Rattle.message.specs.Elements.{declaredOf}
 use Rattle.message.specs.Limits.{Limits}
-use Rattle.message.proofs.Laws.{cond-cases, has-in, has-lt, has-byte, one-yes, one-no, one-has, ends-more, ends-stop, both-first, both-second, fails-byte}
+use Rattle.message.proofs.Laws.{cond-cases, has-lt, has-byte, one-yes, one-no, ends-more, ends-stop, both-first, both-second, fails-byte}
 use Rattle.message.proofs.Bytes.{question-no-start, solid-question, solid-v}
 use Rattle.message.proofs.Runs.{ends-fails, byte-is, has-known}
 use Rattle.message.proofs.Facts.{whole-is}
 use Rattle.message.proofs.Words.{word-first, word-ends}
-use Rattle.message.proofs.Automaton.{exact, exactly, first, before, State, ground, opened, expect, blanks, declared, versionQuote, encodingQuote, versioned, encodingName, Next, dead, goes, step, expecting, equals, versionWord, encodingWord, declaredEnd}
+use Rattle.message.proofs.Automaton.{exact, exactly, first, before, State, ground, opened, expect, declared, versionQuote, encodingQuote, versioned, encodingName, equals, encodingWord, declaredEnd}
 use Rattle.message.proofs.Dues.{due, At}
-use Rattle.message.proofs.Going.{Stuck, Outcome, outcome-then, outcome-as, outcome-one, outcome-expect, outcome-word, at-has, at-ends, stuck-here}
-use Rattle.message.proofs.Acting.{Acts, acts-at}
+use Rattle.message.proofs.Going.{Outcome, outcome-then, outcome-as, outcome-one, outcome-expect, outcome-word, at-has, at-ends, stuck-here}
+use Rattle.message.proofs.Acting.{acts-at}
 use Rattle.message.proofs.GoingQuotes.{Quoting, Opened, going-opened, going-blanks-word}
 use Rattle.message.proofs.Ways.{at-within}
 

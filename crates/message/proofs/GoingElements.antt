@@ -1,23 +1,23 @@
 -- The machine reads elements in elements, and whole messages, as `elementAt` and `documentAt` do. Assumes nothing.
 use Prim.Native.Nat.{ℕ, zero, suc, _+_, _<_, _≤_}
-use mathlib.Core.Path.{_≡_, refl, sym, _∙_, ap, subst}
-use mathlib.Core.Bool.{Bool, true, false, cond, not, _&&_, _||_, true≢false, and-false}
-use mathlib.Core.List.{List, [], _∷_}
+use mathlib.Core.Path.{_≡_, refl, sym, _∙_, subst}
+use mathlib.Core.Bool.{Bool, true, false, cond, _&&_, true≢false, and-false}
+use mathlib.Core.List.{List, []}
 use native.Mathlib.Omega.{arith}
 use lib.ListN.{length}
 use lib.Dec.{ltb, leb}
-use borrow.Author.Tests.{le-leb, lt-leb, le-ltb, ltb-true, ltb-false}
+use borrow.Author.Tests.{lt-leb, le-ltb, ltb-true, ltb-false}
 use Rattle.laws.proofs.Tests.{and-right}
 use Rattle.message.specs.Class.{classOf, isStart, isSpace}
-use Rattle.message.specs.Reading.{Reading, _>>=_, is, byteAt, has, one, ends}
+use Rattle.message.specs.Reading.{Reading, _>>=_, is, byteAt, has}
 use Rattle.message.specs.Reading.Reading.{whole, refused}
 use Rattle.message.specs.Text.{textAt}
-use Rattle.message.specs.Markup.{opensAt, bangAt, aroundAt, declares, declarationAt}
+use Rattle.message.specs.Markup.{bangAt, aroundAt, declares, declarationAt}
 use Rattle.message.specs.Limits.{Limits}
 use Rattle.message.specs.Elements.{part, Element, Start, Content, freeAt, startAt, endTagAt, contentAt, restAt, elementAt, endAt, declaredOf, rootAt, documentAt}
 use Rattle.message.specs.Elements.Elements.{none}
 use Rattle.message.specs.Readable.{of-end}
-use Rattle.message.proofs.Laws.{cond-cases, has-lt, has-byte, and-true, fails-byte}
+use Rattle.message.proofs.Laws.{cond-cases, has-lt, has-byte, fails-byte}
 use Rattle.message.proofs.Runs.{has-known}
 use Rattle.message.proofs.Bytes.{slash-no-start}
 use Rattle.message.proofs.Progress.{past-whole}
@@ -25,7 +25,7 @@ use Rattle.message.proofs.MarkupLoop.{past-bang}
 use Rattle.message.proofs.Trees.{text-whole, free-whole, element-on}
 use Rattle.message.proofs.Facts.{Starts, start-starts}
 use Rattle.message.proofs.Shapes.{Shape, name-shape}
-use Rattle.message.proofs.Automaton.{Ground, first, before, behind, inside, State, ground, opened, Next, dead, goes, step, after, closing, betweenTags}
+use Rattle.message.proofs.Automaton.{Ground, first, before, behind, inside, ground, opened, dead, goes, step, after, closing, betweenTags}
 use Rattle.message.proofs.Dues.{isBehind, isFirst, depth, due, At, stateAt}
 use Rattle.message.proofs.Going.{opens, dies, Outcome, outcome-then, outcome-as, at-has, stuck-here}
 use Rattle.message.proofs.GoingText.{Safe, going-text}

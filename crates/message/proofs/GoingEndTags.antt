@@ -1,29 +1,28 @@
 -- The machine reads end tags as `endTagAt` does: the start tag's name again, part by part, and the `>`. Assumes nothing.
 use Prim.Native.Nat.{ℕ, zero, suc, _+_, _-_, _<_, _≤_}
 use mathlib.Core.Path.{_≡_, refl, sym, _∙_, ap, subst}
-use mathlib.Core.Bool.{Bool, true, false, cond, not, _&&_, _||_, true≢false}
-use mathlib.Core.List.{List, [], _∷_, _++_, append-nil, append-assoc}
+use mathlib.Core.Bool.{Bool, true, false, cond}
+use mathlib.Core.List.{List, [], _∷_, _++_, append-nil}
 use native.Mathlib.Omega.{arith}
-use lib.ListN.{length, getD}
-use lib.Dec.{ltb, leb, eqb}
-use borrow.Author.Tests.{eqb-true, eq-eqb, ne-eqb}
+use lib.ListN.{length}
+use borrow.Author.Tests.{eq-eqb, ne-eqb}
 use Rattle.message.specs.Class.{classOf, isStart, isName, isSpace}
-use Rattle.message.specs.Reading.{Reading, _>>=_, is, byteAt, has, one, ends, wordAt}
+use Rattle.message.specs.Reading.{_>>=_, is, byteAt, has, one, ends, wordAt}
 use Rattle.message.specs.Reading.Reading.{whole, refused}
-use Rattle.message.specs.Names.{Named, shortAt, partAt, nameAt}
+use Rattle.message.specs.Names.{Named, shortAt}
 use Rattle.message.specs.Limits.{Limits}
 use Rattle.message.specs.Elements.{part, endPartAt, endNameAt, endTagAt}
-use Rattle.message.specs.Readable.{FirstPart, PartStands, first, second}
-use Rattle.message.proofs.Laws.{cond-cases, cond-true, cond-false, has-in, has-out, has-lt, has-byte, one-yes, one-no, one-has, ends-more, ends-stop, ends-from, ends-le, fails-byte}
+use Rattle.message.specs.Readable.{FirstPart, first, second}
+use Rattle.message.proofs.Laws.{has-out, has-lt, has-byte, one-yes, one-no, one-has, ends-more, ends-stop, ends-from, ends-le, fails-byte}
 use Rattle.message.proofs.Trees.{whole-same}
 use Rattle.message.proofs.Parts.{part-some, part-none, part-parted}
 use Rattle.message.proofs.Bytes.{other-than, colon-no-name}
 use Rattle.message.proofs.Runs.{byte-is, has-known, ends-fails, start-in-name}
 use Rattle.message.proofs.Words.{word-first}
 use Rattle.message.proofs.Shapes.{Shape, single, double}
-use Rattle.message.proofs.Automaton.{State, close, blanks, exact, Next, dead, goes, only, step, after, closing}
-use Rattle.message.proofs.Dues.{long, due, At}
-use Rattle.message.proofs.Going.{MarkedAt, Part, Stuck, longs, Outcome, outcome-then, outcome-as, outcome-one, at-has, at-ends, stuck-here}
+use Rattle.message.proofs.Automaton.{close, after, closing}
+use Rattle.message.proofs.Dues.{long, At}
+use Rattle.message.proofs.Going.{MarkedAt, Part, longs, Outcome, outcome-then, outcome-as, outcome-one, at-has, at-ends, stuck-here}
 
 -- all bytes of a part are bytes of names
 abbrev pub AllName : List ℕ → Type 0

@@ -1,25 +1,22 @@
 -- The machine reads comments where markup may begin, and what stands around the root, as `bangAt` and `aroundAt` do. Assumes nothing.
 use Prim.Native.Nat.{ℕ, zero, suc, _+_, _<_, _≤_}
-use mathlib.Core.Path.{_≡_, refl, sym, _∙_, ap, subst}
-use mathlib.Core.Bool.{Bool, true, false, cond, not, _&&_, _||_, true≢false, and-false}
-use mathlib.Core.List.{List, [], _∷_}
+use mathlib.Core.Path.{_≡_, refl, sym, _∙_, subst}
+use mathlib.Core.Bool.{Bool, true, false, not, _&&_, _||_, true≢false, and-false}
+use mathlib.Core.List.{List, []}
 use native.Mathlib.Omega.{arith}
 use lib.ListN.{length}
-use lib.Dec.{leb, eqb}
-use borrow.Author.Tests.{eqb-true}
+use lib.Dec.{leb}
 use Rattle.laws.proofs.Tests.{or-last, not-both}
 use Rattle.message.specs.Class.{classOf, isStart, isSpace}
-use Rattle.message.specs.Reading.{Reading, _>>=_, isWhole, is, byteAt, has, one, ends, wordAt}
-use Rattle.message.specs.Reading.Reading.{whole, refused}
-use Rattle.message.specs.Text.{commentAt}
+use Rattle.message.specs.Reading.{isWhole, is, byteAt, has, ends, wordAt}
 use Rattle.message.specs.Markup.{doctype, cdata, hyphens, opensAt, bangAt, aroundAt, declares}
 use Rattle.message.specs.Limits.{Limits}
-use Rattle.message.proofs.Laws.{cond-cases, and-true, has-in, has-lt, has-byte, one-yes, ends-more, ends-stop, ends-from, both-first, both-second}
+use Rattle.message.proofs.Laws.{cond-cases, has-byte, one-yes, ends-more, ends-stop, ends-from, both-first, both-second}
 use Rattle.message.proofs.Bytes.{has-fails, bang-no-start, space-no-tag}
 use Rattle.message.proofs.Runs.{ends-fails, has-known}
 use Rattle.message.proofs.Progress.{past-whole}
 use Rattle.message.proofs.MarkupLoop.{past-bang}
-use Rattle.message.proofs.Automaton.{Ground, first, before, behind, inside, State, ground, opened, note, Next, goes, step, rest, comment}
+use Rattle.message.proofs.Automaton.{Ground, first, before, behind, inside, ground, opened, note, rest, comment}
 use Rattle.message.proofs.Dues.{isBehind, isFirst, depth, opening, due, At}
 use Rattle.message.proofs.Going.{opens, Outcome, outcome-then, outcome-as, outcome-word, at-has, at-ends}
 use Rattle.message.proofs.GoingText.{going-comment}

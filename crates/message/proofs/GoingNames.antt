@@ -1,28 +1,23 @@
 -- The machine reads names as `nameAt` does, in a start tag and in an attribute alike. Assumes nothing.
-use Prim.Native.Nat.{ℕ, zero, suc, _+_, _-_, _<_, _≤_}
+use Prim.Native.Nat.{ℕ, zero, suc, _+_, _<_, _≤_}
 use mathlib.Core.Path.{_≡_, refl, sym, _∙_, ap, subst}
 use mathlib.Core.Bool.{Bool, true, false, cond, not, _&&_, and-false}
 use mathlib.Core.List.{List, [], _∷_, _++_}
-use native.Mathlib.Numerals.{add-one}
 use native.Mathlib.Omega.{arith}
-use lib.ListN.{length, take}
-use lib.Seq.{take-suc, drop-append-le, length-take-le, slice-empty}
-use lib.Dec.{ltb, leb, eqb}
-use borrow.Author.Tests.{le-leb, eqb-true}
+use lib.ListN.{length}
 use Rattle.message.specs.Class.{classOf, isStart, isName}
-use Rattle.message.specs.Reading.{Reading, _>>=_, is, byteAt, has, one, ends}
+use Rattle.message.specs.Reading.{_>>=_, is, byteAt, has, one, ends}
 use Rattle.message.specs.Reading.Reading.{whole, refused}
 use Rattle.message.specs.Names.{Named, shortAt, partAt, nameAt}
 use Rattle.message.specs.Limits.{Limits}
 use Rattle.message.specs.Elements.{part}
-use Rattle.message.specs.Readable.{FirstPart, PartStands, first, second}
-use Rattle.message.proofs.Laws.{cond-cases, has-in, has-out, has-lt, has-byte, one-yes, one-no, ends-more, ends-stop, ends-from, fails-byte}
+use Rattle.message.specs.Readable.{FirstPart, second}
+use Rattle.message.proofs.Laws.{cond-cases, has-out, has-lt, has-byte, one-yes, one-no, ends-more, ends-stop, fails-byte}
 use Rattle.message.proofs.Parts.{part-more}
 use Rattle.message.proofs.Runs.{ends-fails, byte-is, start-name, start-in-name}
-use Rattle.message.proofs.Automaton.{State, Next, dead, goes, only, step}
+use Rattle.message.proofs.Automaton.{State, dead, goes, only, step}
 use Rattle.message.proofs.Dues.{mayEnd, long, longPart, due, At}
-use Rattle.message.proofs.Going.{MarkedAt, Part, Roomy, Stuck, longs, Outcome, outcome-then, at-has, stuck-here}
-use Rattle.message.proofs.Acting.{Acts, acts-at, acts-one}
+use Rattle.message.proofs.Going.{MarkedAt, Part, Roomy, longs, Outcome, outcome-then, at-has, stuck-here}
 
 module _ (l : Limits) (s : List ℕ) where
   -- the states in which a name is read: in its first part or its second, with what was read of it, and behind the colon

@@ -1,20 +1,18 @@
 -- The machine reads `=` and a quotation mark as `openedAt` does, before an attribute's value and in the declaration alike; and a word behind white space.
 -- Assumes nothing.
-use Prim.Native.Nat.{ℕ, _+_, _-_, _<_, _≤_}
+use Prim.Native.Nat.{ℕ, _+_, _-_, _<_}
 use mathlib.Core.Path.{_≡_, refl, sym, _∙_, ap, subst}
-use mathlib.Core.Bool.{Bool, true, false, cond}
+use mathlib.Core.Bool.{true, false, cond}
 use mathlib.Core.List.{List, [], _∷_, _++_}
 use native.Mathlib.Omega.{arith}
 use lib.ListN.{length}
-use lib.Dec.{eqb}
-use borrow.Author.Tests.{eqb-true}
 use Rattle.message.specs.Class.{classOf, isSpace}
-use Rattle.message.specs.Reading.{Reading, _>>=_, is, byteAt, has, one, ends, wordAt, isQuote, equalsAt, openedAt}
+use Rattle.message.specs.Reading.{is, byteAt, has, one, ends, wordAt, isQuote, equalsAt, openedAt}
 use Rattle.message.specs.Limits.{Limits}
-use Rattle.message.proofs.Laws.{or-false, has-lt, has-byte, one-has, fails-byte}
+use Rattle.message.proofs.Laws.{has-lt, has-byte, one-has, fails-byte}
 use Rattle.message.proofs.Bytes.{solid-equals, quote-no-space}
 use Rattle.message.proofs.Runs.{ends-fails}
-use Rattle.message.proofs.Automaton.{Test, exact, exactly, State, blanks, Next, dead, goes, only, step, expecting, equals, stepBlanks}
+use Rattle.message.proofs.Automaton.{Test, exact, exactly, State, blanks, Next, goes, only, step, expecting, stepBlanks}
 use Rattle.message.proofs.Dues.{mayEnd, due, At}
 use Rattle.message.proofs.Going.{Outcome, outcome-then, outcome-as, outcome-one, outcome-word, at-ends}
 use Rattle.message.proofs.Acting.{Acts, acts-one, acts-at, acts-blanks}

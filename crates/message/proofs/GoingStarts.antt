@@ -1,27 +1,27 @@
 -- The machine reads start tags as `startAt` does, where an element may begin. Assumes nothing.
-use Prim.Native.Nat.{ℕ, _+_, _<_, _≤_}
-use mathlib.Core.Path.{_≡_, refl, sym, _∙_, ap, subst}
-use mathlib.Core.Bool.{Bool, true, false, cond, not, _&&_, _||_, true≢false, and-false}
+use Prim.Native.Nat.{ℕ, _+_, _<_}
+use mathlib.Core.Path.{_≡_, refl, sym, _∙_, ap}
+use mathlib.Core.Bool.{Bool, true, false, not, _&&_, true≢false, and-false}
 use mathlib.Core.List.{List, [], _∷_}
 use native.Mathlib.Omega.{arith}
 use lib.ListN.{length}
-use lib.Dec.{leb, eqb}
+use lib.Dec.{leb}
 use borrow.Author.Tests.{le-leb}
 use Rattle.message.specs.Class.{classOf, isStart, isName}
-use Rattle.message.specs.Reading.{Reading, _>>=_, is, byteAt, has, one}
+use Rattle.message.specs.Reading.{_>>=_, is, byteAt, has, one}
 use Rattle.message.specs.Reading.Reading.{whole, refused}
 use Rattle.message.specs.Names.{Named, nameAt}
 use Rattle.message.specs.Limits.{Limits}
-use Rattle.message.specs.Elements.{part, Element, Start, endsTag, startEndAt, tooDeepAt, attributesAt, withNameAt, startAt}
+use Rattle.message.specs.Elements.{part, Element, Start, startEndAt, tooDeepAt, attributesAt, withNameAt, startAt}
 use Rattle.message.specs.Readable.{of-start}
 use Rattle.message.specs.Readable as readable
 use Rattle.message.proofs.Laws.{cond-cases, has-second, has-in, has-lt, has-byte, one-yes, one-no, fails-byte}
 use Rattle.message.proofs.Parts.{part-one}
 use Rattle.message.proofs.Bytes.{colon-no-name}
-use Rattle.message.proofs.Automaton.{Ground, first, before, behind, inside, State, ground, opened, name, colon, inTag, slash, Next, dead, goes, step, after, named, tag, betweenTags, stepInTag}
-use Rattle.message.proofs.Dues.{isBehind, depth, opening, long, due, At}
-use Rattle.message.proofs.Going.{deep, Stuck, Outcome, outcome-then, outcome-as, outcome-one, at-has, stuck-here}
-use Rattle.message.proofs.Acting.{Acts, acts-at, acts-as}
+use Rattle.message.proofs.Automaton.{Ground, first, before, behind, inside, ground, opened, name, colon, inTag, dead, step, after, named, tag, betweenTags, stepInTag}
+use Rattle.message.proofs.Dues.{isBehind, depth, opening, At}
+use Rattle.message.proofs.Going.{deep, Stuck, Outcome, outcome-then, outcome-one, at-has, stuck-here}
+use Rattle.message.proofs.Acting.{acts-at, acts-as}
 use Rattle.message.proofs.GoingNames.{Naming, NameRead, NameBefore, going-name}
 use Rattle.message.proofs.GoingAttributes.{Tagged, EndsAt, going-attributes}
 

@@ -1,18 +1,17 @@
 -- The machine does what the readers of text, of values and of comments do. Assumes nothing.
 use Prim.Native.Nat.{ℕ, zero, suc, _+_, _<_, _≤_}
 use mathlib.Core.Path.{_≡_, refl, sym, _∙_, ap, subst}
-use mathlib.Core.Bool.{Bool, true, false, cond, not, _&&_, _||_, and-false, true≢false}
+use mathlib.Core.Bool.{Bool, true, false, cond, _&&_, and-false, true≢false}
 use mathlib.Core.List.{List}
 use native.Mathlib.Omega.{arith}
 use lib.ListN.{length}
-use lib.Dec.{leb, eqb}
-use borrow.Author.Tests.{eqb-true, leb-true, le-leb}
+use lib.Dec.{eqb}
 use Rattle.message.specs.Class.{classOf, isText, isPlain, isPlainNote}
 use Rattle.message.specs.Reading.{is, isQuote, byteAt, has, one, ends}
 use Rattle.message.specs.Text.{specialAt, bracketAt, beyondPlainInAt, beyondPlainAt, beyondNoteAt, hyphensAt, textAt, valueAt, commentAt}
 use Rattle.message.specs.Characters.{longAt}
 use Rattle.message.specs.Limits.{Limits}
-use Rattle.message.proofs.Laws.{cond-cases, both-first, both-second, has-in, has-lt, has-byte, has-out, ends-from, ends-more, ends-stop, fails-byte}
+use Rattle.message.proofs.Laws.{cond-cases, both-first, both-second, has-in, has-lt, has-byte, ends-from, ends-more, ends-stop, fails-byte}
 use Rattle.message.proofs.Acting.{Acts, acting, acts-at, acts-has, acts-as, acts-only}
 use Rattle.message.proofs.Bytes.{other-than, has-other, quote-no-plain, tag-no-plain, bracket-no-plain, plain-text, note-no-hyphen}
 use Rattle.message.proofs.Runs.{ends-fails, byte-is}

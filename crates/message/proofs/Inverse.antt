@@ -1,15 +1,15 @@
 -- What bytes that may follow say of the state that the machine is in: where a comment may stand markup may begin, and as many end tags as end a message are the
 -- elements that are open. Assumes nothing.
-use Prim.Native.Nat.{ℕ, zero, suc, _≤_}
+use Prim.Native.Nat.{ℕ, zero, suc}
 use mathlib.Core.Path.{_≡_, refl, sym, _∙_, ap}
-use mathlib.Core.Bool.{Bool, true, false, cond, _||_, true≢false}
+use mathlib.Core.Bool.{Bool, true, false, cond, _||_}
 use mathlib.Core.List.{List, [], _∷_, _++_}
 use native.Mathlib.Omega.{arith}
 use lib.ListN.{length}
 use lib.Dec.{eqb}
-use borrow.Author.Tests.{ne-eqb, eqb-true, leb-true}
+use borrow.Author.Tests.{ne-eqb}
 use Rattle.laws.proofs.Tests.{true-false}
-use Rattle.message.specs.Class.{classOf, isName, isSpace}
+use Rattle.message.specs.Class.{classOf, isName}
 use Rattle.message.specs.Reading.{is}
 use Rattle.message.specs.Elements.{isKnown}
 use Rattle.message.specs.Readable.{aComment, endTags, NameLike, EachNameLike}

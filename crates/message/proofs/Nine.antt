@@ -1,5 +1,5 @@
 -- Proves specs/Nine: what the place of a 9 means, and that there is one such place at most. Assumes nothing.
-use Prim.Native.Nat.{ℕ, suc, _+_, _-_, _<_, _≤_}
+use Prim.Native.Nat.{ℕ, _+_, _-_, _<_, _≤_}
 use mathlib.Core.Path.{_≡_, refl, sym, _∙_, ap, subst}
 use mathlib.Core.Bool.{Bool, true, false, cond}
 use mathlib.Core.List.{List, _++_, append-assoc}
@@ -10,10 +10,10 @@ use lib.Seq.{take-all, take-add, take-length}
 use lib.Dec.{ltb, eqb}
 use borrow.Author.Tests.{ltb-false}
 use Rattle.message.specs.Class.{classOf}
-use Rattle.message.specs.Reading.{Reading, _>>=_}
+use Rattle.message.specs.Reading.{_>>=_}
 use Rattle.message.specs.Reading.Reading.{whole, refused}
 use Rattle.message.specs.Limits.{Limits}
-use Rattle.message.specs.Elements.{Element, declaredOf, rootAt, documentAt}
+use Rattle.message.specs.Elements.{declaredOf, rootAt, documentAt}
 use Rattle.message.specs.Readable.{Readable, Continues}
 use Rattle.message.specs.Nine.{NineAt, dead, unfinished, NineMeans, NineOnce}
 use Rattle.message.proofs.Automaton.{State, ground, behind}

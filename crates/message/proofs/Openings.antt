@@ -1,7 +1,7 @@
 -- Behind an opening of refusal 12 no message can end. Assumes nothing.
 use Prim.Native.Nat.{ℕ, suc, _+_}
 use mathlib.Core.Path.{_≡_, refl, sym, _∙_, ap}
-use mathlib.Core.Logic.{_⊎_, ⊎-elim, inl, inr}
+use mathlib.Core.Logic.{_⊎_, ⊎-elim}
 use mathlib.Core.Bool.{Bool, true, false, not, _&&_, _||_}
 use mathlib.Core.List.{List, [], _∷_}
 use native.Mathlib.Numerals.{add-one}
@@ -12,10 +12,10 @@ use lib.Seq.{drop-cons}
 use borrow.Author.Tests.{eqb-true, not-true, not-false}
 use Rattle.laws.proofs.Tests.{either}
 use Rattle.message.specs.Class.{classOf, isSpace}
-use Rattle.message.specs.Reading.{Reading, _>>=_, isWhole, is, byteAt, has, wordAt}
+use Rattle.message.specs.Reading.{isWhole, is, byteAt, has, wordAt}
 use Rattle.message.specs.Markup.{doctype, cdata, declares}
 use Rattle.message.specs.Limits.{Limits}
-use Rattle.message.proofs.Laws.{has-in, has-lt, has-byte, one-no, one-yes, both-first, both-second}
+use Rattle.message.proofs.Laws.{has-in, has-lt, has-byte, one-yes, both-first, both-second}
 use Rattle.message.proofs.Runs.{byte-is, word-begins}
 use Rattle.message.proofs.Automaton.{exact, exactly, Ground, first, before, behind, inside, State, ground, opened, expect, declared, versionWord, comment, dead, goes, only, step, steps}
 use Rattle.message.proofs.Dues.{isFirst, mayEnd, opening}

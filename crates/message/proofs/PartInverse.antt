@@ -3,12 +3,12 @@
 use Prim.Native.Nat.{ℕ, zero, suc, _+_, _<_, _≤_}
 use mathlib.Core.Path.{_≡_, refl, sym, _∙_, ap, subst}
 use mathlib.Core.Logic.{_⊎_, inl, inr}
-use mathlib.Core.Bool.{Bool, true, false, not, _&&_, _||_, true≢false, or-true as or-yes}
+use mathlib.Core.Bool.{Bool, true, false, not, _&&_, true≢false, or-true as or-yes}
 use mathlib.Core.List.{List, [], _∷_, _++_}
 use native.Mathlib.Omega.{arith}
 use lib.ListN.{length, take}
-use lib.Dec.{leb, eqb}
-use borrow.Author.Tests.{eqb-true, ne-eqb}
+use lib.Dec.{leb}
+use borrow.Author.Tests.{eqb-true}
 use Rattle.message.specs.Class.{classOf, isStart, isName, isSpace}
 use Rattle.message.specs.Reading.{is, byteAt, has, ends}
 use Rattle.message.specs.Limits.{Limits}

@@ -2,20 +2,20 @@
 use Prim.Native.Nat.{ℕ, _+_, _-_, _≤_, _<_}
 use mathlib.Core.Path.{_≡_, refl, sym, _∙_, ap, subst}
 use mathlib.Core.Bool.{true}
-use mathlib.Core.List.{List, [], _∷_, _++_}
+use mathlib.Core.List.{List, _∷_, _++_}
 use native.Mathlib.Omega.{arith}
 use lib.ListN.{length, getD}
 use lib.Seq.{length-slice}
 use borrow.Author.Tests.{eq-eqb, ne-eqb}
 use Rattle.message.specs.Class.{isName, isSpace}
-use Rattle.message.specs.Reading.{Reading, _>>=_, is, has, one, ends, wordAt, byteAt, blanks}
+use Rattle.message.specs.Reading.{Reading, _>>=_, is, has, one, ends, byteAt, blanks}
 use Rattle.message.specs.Reading.Reading.{whole}
 use Rattle.message.specs.Names.{Named, shortAt, nameAt}
 use Rattle.message.specs.Limits.{Limits}
 use Rattle.message.specs.Elements.{part, endPartAt, endNameAt, endTagAt}
 use Rattle.message.proofs.Laws.{cond-true, cond-false, cond-cases, has-lt, one-has, ends-from}
 use Rattle.message.proofs.Runs.{byte-is}
-use Rattle.message.proofs.Trees.{whole-same, name-on}
+use Rattle.message.proofs.Trees.{name-on}
 use Rattle.message.proofs.Parts.{part-parted}
 use Rattle.message.proofs.Words.{word-part}
 use Rattle.message.proofs.Facts.{then-whole}

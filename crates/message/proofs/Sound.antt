@@ -1,22 +1,21 @@
 -- What holds in every state that the machine comes to: its names are made of bytes of names and colons, and no byte that it waits for is a `<`.
 -- Assumes nothing.
 use Prim.Native.Nat.{ℕ, zero, suc, _+_, _*_, _<_}
-use mathlib.Core.Path.{_≡_, refl, sym, subst}
-use mathlib.Core.Bool.{Bool, true, false, cond, not, _&&_, _||_, false≢true}
+use mathlib.Core.Path.{_≡_, refl, subst}
+use mathlib.Core.Bool.{Bool, true, false, cond, not, _&&_}
 use mathlib.Core.List.{List, [], _∷_, _++_}
 use native.Mathlib.Omega.{arith}
 use lib.ListN.{length}
 use lib.Dec.{ltb, leb, eqb}
-use borrow.Author.Tests.{ne-eqb, eqb-true}
 use Rattle.message.specs.Class.{classOf, between, isStart, isName, isSpace, isText, isPlainNote}
 use Rattle.message.specs.Reading.{is, isQuote, byteAt}
 use Rattle.message.specs.Characters.{secondOfThree, isDigit, digitOf, closes}
 use Rattle.message.specs.Elements.{isKnown}
 use Rattle.message.specs.Limits.{Limits}
 use Rattle.message.specs.Readable.{NameLike, EachNameLike}
-use Rattle.message.proofs.Laws.{cond-cases, or-true, between-below, cond-both}
+use Rattle.message.proofs.Laws.{cond-cases, between-below, cond-both}
 use Rattle.message.proofs.Bytes.{quote-no-tag, Letter, name-letter, start-letter, colon-letter}
-use Rattle.message.proofs.Automaton.{Test, exact, Ground, first, before, behind, inside, State, ground, opened, expect, blanks, declared, versionQuote, encodingQuote, versioned, encodingName, note, second, ampersand, ampersandA, hash, firstDigit, number, name, colon, inTag, slash, attribute, attributeColon, quote, value, close, Next, dead, goes, expecting, rest, after, closing, leads, special, text, betweenTags, named, tag, stepNote, base, numbered, digit, stepAmpersand, stepBlanks, stepInTag, stepAttribute, step, steps}
+use Rattle.message.proofs.Automaton.{Test, exact, Ground, first, before, behind, inside, State, ground, opened, expect, blanks, declared, versionQuote, encodingQuote, versioned, encodingName, note, second, ampersand, ampersandA, hash, firstDigit, number, name, colon, inTag, slash, attribute, attributeColon, quote, value, close, Next, dead, goes, expecting, rest, after, closing, leads, special, text, betweenTags, named, tag, stepNote, base, numbered, digit, stepAmpersand, stepBlanks, stepInTag, stepAttribute, step}
 use Rattle.message.proofs.Dues.{due, further, stateAt, At}
 
 -- ---- the states

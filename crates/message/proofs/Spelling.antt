@@ -1,27 +1,26 @@
 -- A word that is read at a place is what stands there, and the other way round; and the openings of 12 said in both ways. Assumes nothing.
-use Prim.Native.Nat.{ℕ, zero, suc, _+_, _-_, _<_, _≤_, min}
-use mathlib.Core.Path.{_≡_, refl, sym, _∙_, ap, subst}
-use mathlib.Core.Logic.{_⊎_, ⊎-elim}
-use mathlib.Core.Bool.{Bool, true, false, cond, not, _&&_, _||_, true≢false}
+use Prim.Native.Nat.{ℕ, suc, _+_, _-_, _≤_, min}
+use mathlib.Core.Path.{_≡_, sym, _∙_, ap}
+use mathlib.Core.Logic.{⊎-elim}
+use mathlib.Core.Bool.{Bool, true, false, not, _&&_, _||_, true≢false}
 use mathlib.Core.List.{List, [], _∷_}
 use native.Mathlib.Nat.{min-le-left, min-le-right}
 use native.Mathlib.Omega.{arith}
-use native.Mathlib.Decide.{decLt}
 use lib.ListN.{length}
-use borrow.Author.Tests.{eqb-true, eq-eqb, not-true}
+use borrow.Author.Tests.{eq-eqb, not-true}
 use Rattle.message.specs.Class.{classOf, isStart, isSpace}
-use Rattle.message.specs.Reading.{Reading, _>>=_, isWhole, is, byteAt, has, one, wordAt}
-use Rattle.message.specs.Reading.Reading.{whole, refused}
+use Rattle.message.specs.Reading.{isWhole, is, byteAt, has, wordAt}
+use Rattle.message.specs.Reading.Reading.{whole}
 use Rattle.message.specs.Markup as markup
 use Rattle.message.specs.Markup.{declares}
 use Rattle.message.specs.Words.{codes}
 use Rattle.message.specs.Limits.{Limits}
 use Rattle.message.specs.Elements.{part}
 use Rattle.message.specs.Due.{Spelled, Declares, Opening, doctype, cdata, instruction}
-use Rattle.message.proofs.Laws.{and-true, or-true, has-in, has-lt, has-byte, one-yes, one-has, both-first, both-second}
+use Rattle.message.proofs.Laws.{and-true, or-true, has-in, has-lt, one-yes, both-first, both-second}
 use Rattle.message.proofs.Runs.{has-known}
 use Rattle.message.proofs.Bytes.{bang-no-start, question-no-start}
-use Rattle.message.proofs.Parts.{part-length, part-some, part-none}
+use Rattle.message.proofs.Parts.{part-length, part-some}
 use Rattle.message.proofs.Facts.{whole-is}
 use Rattle.message.proofs.Words.{word-first, word-ends, word-within, word-part}
 use Rattle.laws.proofs.Tests.{never, either, or-last, not-both}

@@ -6,21 +6,20 @@ use mathlib.Core.Bool.{Bool, true, false, cond, true≢false}
 use mathlib.Core.List.{List, [], _∷_}
 use native.Mathlib.Omega.{arith}
 use lib.ListN.{length, take}
-use lib.Dec.{ltb, leb}
+use lib.Dec.{leb}
 use borrow.Author.Tests.{leb-false}
 use Rattle.laws.proofs.Tests.{neither}
-use Rattle.message.specs.Class.{classOf, isStart, isName, isSpace}
-use Rattle.message.specs.Reading.{Reading, _>>=_, is, byteAt, has, ends, blanks}
+use Rattle.message.specs.Class.{classOf, isStart, isSpace}
+use Rattle.message.specs.Reading.{Reading, is, byteAt, has, ends, blanks}
 use Rattle.message.specs.Reading.Reading.{whole, refused}
-use Rattle.message.specs.Names.{Named, shortAt, partAt, nameAt}
+use Rattle.message.specs.Names.{Named, nameAt}
 use Rattle.message.specs.Limits.{Limits}
 use Rattle.message.specs.Elements.{part, isKnown, endsTag}
 use Rattle.message.specs.Readable.{MarkupMayBegin, NameStands, AttributeStands, AttributesStand, TagStands}
-use Rattle.message.proofs.Laws.{went, and-true, has-lt, has-byte, one-yes, ends-more, ends-from, fails-byte}
+use Rattle.message.proofs.Laws.{and-true, has-lt, has-byte, ends-more, ends-from, fails-byte}
 use Rattle.message.proofs.Bytes.{has-other, has-fails, end-no-start}
 use Rattle.message.proofs.Progress.{past-whole}
-use Rattle.message.proofs.Trees.{past-name, past-quoted, whole-same}
-use Rattle.message.proofs.Facts.{then-whole}
+use Rattle.message.proofs.Trees.{past-name, past-quoted}
 use Rattle.message.proofs.Automaton.{Ground, first, before, behind, inside, State, ground, opened, inTag, dead, goes, step}
 use Rattle.message.proofs.Dues.{isBehind, depth, opening, tooDeep, long, due, At}
 use Rattle.message.proofs.Going.{Outcome, at-has}
