@@ -36,7 +36,7 @@ pub steps-from : (st : State) (u v : List ℕ) (mid : State) → steps st u ≡ 
 steps-from st u v mid q = steps-append u v st ∙ ap (λ (n : Next). then-steps n v) q
 
 -- it was not dead behind them
-pub alive-first : (st : State) (u v : List ℕ) (end : State) → steps st (u ++ v) ≡ goes end → (mid : State) × (steps st u ≡ goes mid) × (steps mid v ≡ goes end)
+alive-first : (st : State) (u v : List ℕ) (end : State) → steps st (u ++ v) ≡ goes end → (mid : State) × (steps st u ≡ goes mid) × (steps mid v ≡ goes end)
 alive-first st u v end q = go (steps st u) refl
   where
     go : (n : Next) → steps st u ≡ n → (mid : State) × (steps st u ≡ goes mid) × (steps mid v ≡ goes end)
@@ -94,10 +94,10 @@ module _ (s : List ℕ) (ends : steps (ground first) s ≡ goes (ground behind))
 
 -- ---- bytes that can be continued
 
-pub state-continues : (w : List ℕ) (st : State) → steps (ground first) w ≡ goes st → Continues w
+state-continues : (w : List ℕ) (st : State) → steps (ground first) w ≡ goes st → Continues w
 state-continues w st q = (finish st, ends-readable (w ++ finish st) (steps-from (ground first) w (finish st) st q ∙ finishes st))
 
-pub continues-state : (w : List ℕ) → Continues w → (st : State) × (steps (ground first) w ≡ goes st)
+continues-state : (w : List ℕ) → Continues w → (st : State) × (steps (ground first) w ≡ goes st)
 continues-state w on = let x = alive-first (ground first) w (on .0) (ground behind) (readable-ends (w ++ on .0) (on .1)) in (x .0, x .1)
 
 module _ (l : Limits) (s : List ℕ) (st : State) (p : ℕ) (here : At l s st p) where

@@ -33,7 +33,7 @@ module _ (s : List ℕ) where
   -- ---- the state where a refusal is due
 
   -- where n elements are open the machine is that deep
-  pub open-ground : (n p : ℕ) (st : State) → Here s st p → Open n (take p s) → (g : Ground) × (st ≡ ground g) × (depth g ≡ n)
+  open-ground : (n p : ℕ) (st : State) → Here s st p → Open n (take p s) → (g : Ground) × (st ≡ ground g) × (depth g ≡ n)
   open-ground n p st here open-there =
       let x = may-ground linkLimits s p st here (open-there .markup) in
       let at-ground : Here s (ground (x .0)) p = subst (λ (h : State). Here s h p) (x .1) here in

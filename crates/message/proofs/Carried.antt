@@ -8,7 +8,7 @@ use Rattle.laws.specs.Bytes.{sameBytes}
 use Rattle.laws.proofs.Tests.{true-false, never}
 use Rattle.laws.proofs.Tails.{same-refl, same-eq}
 use Rattle.message.specs.Class.{classOf, isStart, isSpace}
-use Rattle.message.specs.Reading.{Reading, _>>=_, has, ends, blanks}
+use Rattle.message.specs.Reading.{Reading, _>>=_, has, blanks}
 use Rattle.message.specs.Reading.Reading.{whole}
 use Rattle.message.specs.Names.{Named, nameAt}
 use Rattle.message.specs.Limits.{Limits}
@@ -34,12 +34,12 @@ module _ (s : List ℕ) (l : Limits) where
   place at = blanks classOf s at
 
   record Turn (fuel : ℕ) (seen : List (List ℕ)) (at stop : ℕ) : Type 0 where
-    pub space : has (isSpace classOf) s at ≡ true
-    pub name : Named
-    pub named : nameAt classOf (l .part) s (place at) ≡ whole name
-    pub value : Quoted
-    pub valued : quotedAt classOf s (name .end) ≡ whole value
-    pub further : attributesAt classOf s l fuel (part s (place at) (name .end) ∷ seen) (value .to + 1) ≡ whole stop
+    space : has (isSpace classOf) s at ≡ true
+    name : Named
+    named : nameAt classOf (l .part) s (place at) ≡ whole name
+    value : Quoted
+    valued : quotedAt classOf s (name .end) ≡ whole value
+    further : attributesAt classOf s l fuel (part s (place at) (name .end) ∷ seen) (value .to + 1) ≡ whole stop
 
   turn : (fuel : ℕ) (seen : List (List ℕ)) (at stop : ℕ) → attributesAt classOf s l (suc fuel) seen at ≡ whole stop → (has endsTag s (place at) ≡ true) ⊎ Turn fuel seen at stop
   unfolding attributesAt

@@ -26,14 +26,14 @@ use Rattle.message.proofs.Sound.{sane-at}
 use Rattle.message.proofs.Spelling.{opening-stands}
 use Rattle.message.proofs.Ways.{steps-at, at-within}
 
-pub in-tag-goes : (n : List ℕ) (seen o : List (List ℕ)) (x : ℕ) → isStart classOf x ≡ true → step (inTag true n seen o) x ≡ goes (automaton.attribute false (x ∷ []) n seen o)
+in-tag-goes : (n : List ℕ) (seen o : List (List ℕ)) (x : ℕ) → isStart classOf x ≡ true → step (inTag true n seen o) x ≡ goes (automaton.attribute false (x ∷ []) n seen o)
 in-tag-goes n seen o x start = rw (start-no-space x start, other-than (isStart classOf) 47 slash-no-start x start, other-than (isStart classOf) 62 greater-no-start x start, start)
 
 module _ (s : List ℕ) where
   -- ---- levels
 
   -- end tags for all open elements end the message
-  pub ground-open : (g : Ground) (p : ℕ) → Here s (ground g) p → depth g ≡ 32 → Open 32 (take p s)
+  ground-open : (g : Ground) (p : ℕ) → Here s (ground g) p → depth g ≡ 32 → Open 32 (take p s)
   ground-open first p here levels = absurd (omega arith)
   ground-open before p here levels = absurd (omega arith)
   ground-open behind p here levels = absurd (omega arith)

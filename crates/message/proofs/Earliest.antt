@@ -218,7 +218,7 @@ module _ (s : List ℕ) where
   unfolding documentAt
   too-long far = document-refused linkLimits s 8 0 (rw (lt-ltb 65520 (length s) far))
 
-  pub answered : Answered s
+  answered : Answered s
   answered = record {
     too-long = too-long;
     due-first = due-first;

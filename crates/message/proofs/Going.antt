@@ -75,7 +75,7 @@ module _ (l : Limits) (s : List ℕ) where
 
   -- ---- the machine's steps
 
-  pub at-step : {st next : State} (i : ℕ) → At l s st i → i < length s → due l s st i ≡ false → step st (byteAt s i) ≡ goes next → At l s next (i + 1)
+  at-step : {st next : State} (i : ℕ) → At l s st i → i < length s → due l s st i ≡ false → step st (byteAt s i) ≡ goes next → At l s next (i + 1)
   unfolding stateAt
   at-step i here inside free goes-on = rw (add-one, here, lt-ltb i (length s) inside, free) goes-on
 
@@ -85,12 +85,14 @@ module _ (l : Limits) (s : List ℕ) where
 
   -- a state that the message may not end in, and that no byte leads on from
   pub stuck-here : {st : State} {i : ℕ} → At l s st i → mayEnd st ≡ false → (i < length s → step st (byteAt s i) ≡ dead) → Stuck 9 i
-  stuck-here {st = st} {i = i} here more dying =
-      (st, here,
-      elim (decLt i (length s)) [
-        | yes inside ↦ dies inside (dying inside)
-        | no out ↦ cut (omega arith) more
-      ])
+  stuck-here {st = st} {i = i} here more dying = (
+    st,
+    here,
+    elim (decLt i (length s)) [
+      | yes inside ↦ dies inside (dying inside)
+      | no out ↦ cut (omega arith) more
+    ],
+  )
 
   -- one byte, which is the only way on
   pub outcome-one : {st : State} (next : State) (test : ℕ → Bool) (i : ℕ) → At l s st i → mayEnd st ≡ false

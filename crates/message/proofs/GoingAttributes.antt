@@ -34,8 +34,8 @@ use Rattle.message.proofs.GoingNames.{Naming, NameRead, NameBefore, goi
 inTag-seen : {b b′ : Bool} {m m′ : List ℕ} {seen seen′ o o′ : List (List ℕ)} → inTag b m seen o ≡ inTag b′ m′ seen′ o′ → seen ≡ seen′
 inTag-seen e = cc
 
-pub colon-no-tag : {a n : List ℕ} {seen o : List (List ℕ)} {b : Bool} {m : List ℕ} {seen′ o′ : List (List ℕ)} → attributeColon a n seen o ≡ inTag b m seen′ o′ → ⊥
-colon-no-tag e = let z : _≡_ {A = ℕ} 0 1 = cc in omega arith
+pub attribute-colon-no-tag : {a n : List ℕ} {seen o : List (List ℕ)} {b : Bool} {m : List ℕ} {seen′ o′ : List (List ℕ)} → attributeColon a n seen o ≡ inTag b m seen′ o′ → ⊥
+attribute-colon-no-tag e = let z : _≡_ {A = ℕ} 0 1 = cc in omega arith
 
 module _ (l : Limits) (s : List ℕ) where
   module _ (n : List ℕ) (o : List (List ℕ)) where
@@ -68,7 +68,7 @@ module _ (l : Limits) (s : List ℕ) where
       free = λ t a i. refl;
       looks = λ a i. refl;
       colon-more = λ a. refl;
-      colon-roomy = λ a spaced m seen′ o′ e. absurd (colon-no-tag e);
+      colon-roomy = λ a spaced m seen′ o′ e. absurd (attribute-colon-no-tag e);
     }
 
     -- behind the tag's name and the attributes whose names were seen

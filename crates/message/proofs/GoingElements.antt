@@ -39,12 +39,12 @@ module _ (l : Limits) (s : List ℕ) where
   -- ---- text and comments up to the next tag
 
   -- at a `<` that begins no comment and no opening of 12
-  pub record AtTag (v : List ℕ) (o : List (List ℕ)) (i : ℕ) : Type 0 where
-    pub bracketed : ℕ
-    pub here : At l s (ground (inside bracketed v o)) i
-    pub tagged : has (is 60) s i ≡ true
-    pub no-bang : has (is 33) s (i + 1) ≡ false
-    pub no-question : has (is 63) s (i + 1) ≡ false
+  record AtTag (v : List ℕ) (o : List (List ℕ)) (i : ℕ) : Type 0 where
+    bracketed : ℕ
+    here : At l s (ground (inside bracketed v o)) i
+    tagged : has (is 60) s i ≡ true
+    no-bang : has (is 33) s (i + 1) ≡ false
+    no-question : has (is 63) s (i + 1) ≡ false
 
   going-free : (v : List ℕ) (o : List (List ℕ)) (fuel b i : ℕ) → length s ≤ fuel + i → Safe l s b i → At l s (ground (inside b v o)) i → Outcome l s (AtTag v o) (freeAt classOf s fuel i)
   unfolding freeAt

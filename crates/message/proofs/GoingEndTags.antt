@@ -25,7 +25,7 @@ use Rattle.message.proofs.Dues.{long, At}
 use Rattle.message.proofs.Going.{MarkedAt, Part, longs, Outcome, outcome-then, outcome-as, outcome-one, at-has, at-ends, stuck-here}
 
 -- all bytes of a part are bytes of names
-abbrev pub AllName : List ℕ → Type 0
+abbrev AllName : List ℕ → Type 0
 AllName [] = Unit {0}
 AllName (x ∷ w) = (isName classOf x ≡ true) × AllName w
 
@@ -44,7 +44,7 @@ module _ (s : List ℕ) where
           (has-byte (isName classOf) s b h, more)
       go false h more = subst AllName (sym (part-none s b (ends (isName classOf) s b) (omega (arith, ends-stop (isName classOf) s b h)))) tt
 
-  pub all-named : (b : ℕ) → AllName (part s b (ends (isName classOf) s b))
+  all-named : (b : ℕ) → AllName (part s b (ends (isName classOf) s b))
   all-named b = run-named (length s) b (omega arith)
 
 -- ---- the machine in an end tag

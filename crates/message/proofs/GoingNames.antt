@@ -60,10 +60,10 @@ module _ (l : Limits) (s : List ℕ) where
       pub stands : Part l s q
 
     -- behind the last
-    pub record Behind (q e : ℕ) : Type 0 where
-      pub here : At l s (N .inPart t (part s b e)) e
-      pub run : e ≡ ends (isName classOf) s q
-      pub on : q < e
+    record Behind (q e : ℕ) : Type 0 where
+      here : At l s (N .inPart t (part s b e)) e
+      run : e ≡ ends (isName classOf) s q
+      on : q < e
 
     going-part : (q : ℕ) → Before q → Outcome l s (Behind q) (partAt classOf (l .part) s q)
     unfolding partAt shortAt

@@ -22,10 +22,10 @@ module _ (l : Limits) (s : List ℕ) where
 
   module _ (b : ℕ) (solid : isSpace classOf b ≡ false) (ts : List Test) (k : State) where
     -- what the machine does there
-    abbrev pub awaiting : ℕ → Next
+    abbrev awaiting : ℕ → Next
     awaiting = stepBlanks (exact b) solid ts k
 
-    pub going-blanks : (i : ℕ) → Acts l s awaiting i → Outcome l s (λ e. At l s (expecting ts k) e × (e ≡ ends (isSpace classOf) s i + 1)) (one (is b) s (ends (isSpace classOf) s i))
+    going-blanks : (i : ℕ) → Acts l s awaiting i → Outcome l s (λ e. At l s (expecting ts k) e × (e ≡ ends (isSpace classOf) s i + 1)) (one (is b) s (ends (isSpace classOf) s i))
     going-blanks i acts =
         acts-one l s there (expecting ts k) (is b) (λ h. rw (solid-there (has-lt (is b) s p h), has-byte (is b) s p h)) (λ within h. rw (solid-there within, fails-byte (is b) s p within h))
       where

@@ -36,7 +36,7 @@ document-stuck l s n p q other = go (ltb (l .bytes) (length s)) refl
         absurd (other (sym eight))
     go false e = subst (Outcome l s (λ root. At l s (ground behind) (length s))) q (going-document l s (ltb-false (l .bytes) (length s) e))
 
-pub stuck-nine : (l : Limits) (s : List ℕ) (p : ℕ) → Stuck l s 9 p → NineAt s p
+stuck-nine : (l : Limits) (s : List ℕ) (p : ℕ) → Stuck l s 9 p → NineAt s p
 stuck-nine l s p stuck = go (stuck .0) 9 refl (stuck .1) (stuck .2)
   where
     go : (st : State) (n : ℕ) → n ≡ 9 → At l s st p → Cause l s st p n → NineAt s p
@@ -58,7 +58,7 @@ nine-means s l p q = go 9 refl (message-refusal l s 9 p q)
 -- ---- one place
 
 -- fewer bytes can be continued where more can
-pub continues-fewer : (s : List ℕ) (p q : ℕ) → p ≤ q → Continues (take q s) → Continues (take p s)
+continues-fewer : (s : List ℕ) (p q : ℕ) → p ≤ q → Continues (take q s) → Continues (take p s)
 continues-fewer s p q less on =
     let more : p + (q - p) ≡ q = omega arith in
     let cut : take q s ≡ take p s ++ take (q - p) (drop p s) = ap (λ (i : ℕ). take i s) (sym more) ∙ take-add p (q - p) s in

@@ -28,11 +28,11 @@ use Rattle.message.proofs.TagInverse.{OpenedAt, opened-at, goes-at, tag
 
 -- it is no `!`, `?`, `/`, `>` and no white space
 record Plain (x : ℕ) : Type 0 where
-  pub bang : is 33 x ≡ false
-  pub question : is 63 x ≡ false
-  pub slash : is 47 x ≡ false
-  pub greater : is 62 x ≡ false
-  pub solid : isSpace classOf x ≡ false
+  bang : is 33 x ≡ false
+  question : is 63 x ≡ false
+  slash : is 47 x ≡ false
+  greater : is 62 x ≡ false
+  solid : isSpace classOf x ≡ false
 
 letter-plain : (x : ℕ) → Letter x → Plain x
 unfolding classOf

@@ -21,11 +21,11 @@ use Rattle.message.proofs.Dues.{due, further, stateAt, At}
 -- ---- the states
 
 -- none of the bytes that have to come is a `<`
-abbrev pub Solid : List Test → Type 0
+abbrev Solid : List Test → Type 0
 Solid [] = Unit {0}
 Solid (t ∷ ts) = (t .passes 60 ≡ false) × Solid ts
 
-abbrev pub SaneGround : Ground → Type 0
+abbrev SaneGround : Ground → Type 0
 SaneGround first = Unit {0}
 SaneGround before = Unit {0}
 SaneGround behind = Unit {0}

@@ -28,14 +28,14 @@ use Rattle.message.proofs.Automaton.{Ground}
 use Rattle.message.proofs.Dues.{isFirst, opening}
 
 module _ (s : List ℕ) where
-  pub word-spelled : (w : List ℕ) (p e : ℕ) → wordAt w s p ≡ whole e → p ≤ length s → Spelled w s p
+  word-spelled : (w : List ℕ) (p e : ℕ) → wordAt w s p ≡ whole e → p ≤ length s → Spelled w s p
   word-spelled w p e q within =
       ap (part s p) (sym (word-ends s w p e q)) ∙ word-part s w p e q (word-within s w p e q within) .1
 
   same-head : {x y : ℕ} {u v : List ℕ} → x ∷ u ≡ y ∷ v → (x ≡ y) × (u ≡ v)
   same-head e = (cc, cc)
 
-  pub spelled-word : (w : List ℕ) (p : ℕ) → Spelled w s p → wordAt w s p ≡ whole (p + length w)
+  spelled-word : (w : List ℕ) (p : ℕ) → Spelled w s p → wordAt w s p ≡ whole (p + length w)
   unfolding wordAt
   spelled-word [] p h = let none : p ≡ p + 0 = omega arith in ap whole none
   spelled-word (b ∷ w) p h =
@@ -52,10 +52,10 @@ module _ (s : List ℕ) where
 
   -- ---- the declaration
 
-  pub declares-is : Declares s → declares classOf s ≡ true
+  declares-is : Declares s → declares classOf s ≡ true
   declares-is d = rw (ap isWhole (spelled-word markup.xml 0 (d .0))) (d .1)
 
-  pub is-declares : declares classOf s ≡ true → Declares s
+  is-declares : declares classOf s ≡ true → Declares s
   is-declares h =
       let x = whole-is (wordAt markup.xml s 0) (both-first (isWhole (wordAt markup.xml s 0)) (has (isSpace classOf) s 5) h) in
       (word-spelled markup.xml 0 (x .0) (x .1) (omega arith), both-second (isWhole (wordAt markup.xml s 0)) (has (isSpace classOf) s 5) h)
