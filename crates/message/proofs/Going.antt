@@ -1,7 +1,7 @@
 -- What the readers of specs/ do is what the machine does: where a reader is whole the machine has gone on to the state that belongs there, with nothing due on
 -- the way, and where it is refused the machine stands at the place of refusal with its cause. Here is what the files about single readers share.
 -- Assumes nothing.
-use Prim.Native.Nat.{ℕ, zero, suc, _+_, _<_, _≤_}
+use Prim.Native.Nat.{ℕ, _+_, _<_, _≤_}
 use mathlib.Core.Path.{_≡_, refl}
 use mathlib.Core.Bool.{Bool, true, false}
 use mathlib.Core.List.{List, [], _∷_, _++_}
@@ -17,7 +17,8 @@ use Rattle.message.specs.Reading as reading
 use Rattle.message.specs.Reading.Reading.{whole, refused}
 use Rattle.message.specs.Limits.{Limits}
 use Rattle.message.specs.Readable.{TagStands, PartStands}
-use Rattle.message.proofs.Laws.{has-out, has-lt, has-byte, one-yes, one-no, ends-more, ends-stop, fails-byte}
+use Rattle.message.proofs.Laws.{has-lt, has-byte, one-yes, one-no, fails-byte}
+use Rattle.message.proofs.Runs.{run-keeps}
 use Rattle.message.proofs.Automaton.{Test, exact, exactly, Ground, State, ground, expect, inTag, dead, goes, step, expecting}
 use Rattle.message.proofs.Dues.{mayEnd, depth, opening, tooDeep, long, due, stateAt, At}
 
@@ -105,18 +106,9 @@ module _ (l : Limits) (s : List ℕ) where
       go false h = rw (one-no test s i h) (stuck-here here goes-on (λ inside. fails inside h))
 
   -- as many bytes as pass a test and leave the machine where it is
-  module _ {st : State} (test : ℕ → Bool) (free : (i : ℕ) → has test s i ≡ true → due l s st i ≡ false) (stays : (x : ℕ) → test x ≡ true → step st x ≡ goes st) where
-    ends-turn : (i : ℕ) (t : Bool) → has test s i ≡ t → At l s st i → (has test s i ≡ true → At l s st (ends test s (i + 1))) → At l s st (ends test s i)
-    ends-turn i true h here more = rw (ends-more test s i h) (more h)
-    ends-turn i false h here more = rw (ends-stop test s i h) here
-
-    ends-on : (n i : ℕ) → length s ≤ n + i → At l s st i → At l s st (ends test s i)
-    ends-on zero i enough here = rw (ends-stop test s i (has-out test s i (omega arith))) here
-    ends-on (suc n) i enough here =
-        ends-turn i (has test s i) refl here (λ h. ends-on n (i + 1) (omega arith) (at-has test i here h (free i h) (stays (byteAt s i) (has-byte test s i h))))
-
-    pub at-ends : (i : ℕ) → At l s st i → At l s st (ends test s i)
-    at-ends i here = ends-on (length s) i (omega arith) here
+  pub at-ends : {st : State} (test : ℕ → Bool) → ((i : ℕ) → has test s i ≡ true → due l s st i ≡ false) → ((x : ℕ) → test x ≡ true → step st x ≡ goes st)
+      → (i : ℕ) → At l s st i → At l s st (ends test s i)
+  at-ends {st = st} test free stays = run-keeps test s (At l s st) (λ i h here. at-has test i here h (free i h) (stays (byteAt s i) (has-byte test s i h)))
 
   -- ---- a word
 

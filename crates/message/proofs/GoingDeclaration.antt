@@ -121,8 +121,8 @@ module _ (l : Limits) (s : List ℕ) where
         (at-ends l s (isSpace classOf) (λ j t. refl) (λ x t. rw t) (i + 1) (at-has l s (isSpace classOf) i here h refl (rw (has-byte (isSpace classOf) s i h))))
 
     -- with white space or without
-    either : (b : Bool) × At l s (versioned b) stop
-    either = go (has (isSpace classOf) s i) refl
+    spaced-or-not : (b : Bool) × At l s (versioned b) stop
+    spaced-or-not = go (has (isSpace classOf) s i) refl
       where
         go : (t : Bool) → has (isSpace classOf) s i ≡ t → (b : Bool) × At l s (versioned b) stop
         go true h = (true, spaced h)
@@ -132,7 +132,7 @@ module _ (l : Limits) (s : List ℕ) where
     unfolding wordAt
     going-end h =
         rw (one-yes (is 63) s stop h)
-        (outcome-word l s (62 ∷ []) [] (ground before) (stop + 1) (at-has l s (is 63) stop (either .1) h refl (rw (solid (has-lt (is 63) s stop h), has-byte (is 63) s stop h))))
+        (outcome-word l s (62 ∷ []) [] (ground before) (stop + 1) (at-has l s (is 63) stop (spaced-or-not .1) h refl (rw (solid (has-lt (is 63) s stop h), has-byte (is 63) s stop h))))
 
     module _ (no-end : has (is 63) s stop ≡ false) where
       going-word : At l s (versioned true) stop → Outcome l s (λ e. At l s (equals encodingQuote) e) (wordAt markup.encoding s stop)

@@ -1,5 +1,5 @@
 -- The machine reads end tags as `endTagAt` does: the start tag's name again, part by part, and the `>`. Assumes nothing.
-use Prim.Native.Nat.{ℕ, zero, suc, _+_, _-_, _<_, _≤_}
+use Prim.Native.Nat.{ℕ, _+_, _-_, _<_, _≤_}
 use mathlib.Core.Path.{_≡_, refl, sym, _∙_, ap, subst}
 use mathlib.Core.Bool.{Bool, true, false, cond}
 use mathlib.Core.List.{List, [], _∷_, _++_, append-nil}
@@ -13,11 +13,11 @@ use Rattle.message.specs.Names.{Named, shortAt}
 use Rattle.message.specs.Limits.{Limits}
 use Rattle.message.specs.Elements.{part, endPartAt, endNameAt, endTagAt}
 use Rattle.message.specs.Readable.{FirstPart, first, second}
-use Rattle.message.proofs.Laws.{has-out, has-lt, has-byte, one-yes, one-no, one-has, ends-more, ends-stop, ends-from, ends-le, fails-byte}
+use Rattle.message.proofs.Laws.{has-lt, has-byte, one-yes, one-no, one-has, ends-more, ends-stop, ends-from, ends-le, fails-byte}
 use Rattle.message.proofs.Trees.{whole-same}
-use Rattle.message.proofs.Parts.{part-some, part-none, part-parted}
+use Rattle.message.proofs.Parts.{part-some, part-none, part-parted, part-more}
 use Rattle.message.proofs.Bytes.{other-than, colon-no-name}
-use Rattle.message.proofs.Runs.{byte-is, has-known, ends-fails, start-in-name}
+use Rattle.message.proofs.Runs.{byte-is, has-known, ends-fails, start-in-name, run-keeps}
 use Rattle.message.proofs.Words.{word-first}
 use Rattle.message.proofs.Shapes.{Shape, single, double}
 use Rattle.message.proofs.Automaton.{close, after, closing}
@@ -29,23 +29,18 @@ abbrev AllName : List ℕ → Type 0
 AllName [] = Unit {0}
 AllName (x ∷ w) = (isName classOf x ≡ true) × AllName w
 
--- a run of them
-module _ (s : List ℕ) where
-  run-named : (n b : ℕ) → length s ≤ n + b → AllName (part s b (ends (isName classOf) s b))
-  run-named zero b enough = subst AllName (sym (part-none s b (ends (isName classOf) s b) (omega (arith, ends-stop (isName classOf) s b (has-out (isName classOf) s b (omega arith)))))) tt
-  run-named (suc n) b enough = go (has (isName classOf) s b) refl (run-named n (b + 1) (omega arith))
-    where
-      go : (t : Bool) → has (isName classOf) s b ≡ t → AllName (part s (b + 1) (ends (isName classOf) s (b + 1))) → AllName (part s b (ends (isName classOf) s b))
-      go true h more =
-          let within : b < length s = has-lt (isName classOf) s b h in
-          let same : ends (isName classOf) s b ≡ ends (isName classOf) s (b + 1) = ends-more (isName classOf) s b h in
-          subst AllName
-          (sym (part-some s b (ends (isName classOf) s b) (omega (arith, same, ends-from (isName classOf) s (b + 1))) (ends-le (isName classOf) s b (omega arith)) ∙ ap (λ (e : ℕ). byteAt s b ∷ part s (b + 1) e) same))
-          (has-byte (isName classOf) s b h, more)
-      go false h more = subst AllName (sym (part-none s b (ends (isName classOf) s b) (omega (arith, ends-stop (isName classOf) s b h)))) tt
+all-more : (w : List ℕ) (x : ℕ) → AllName w → isName classOf x ≡ true → AllName (w ++ (x ∷ []))
+all-more [] x all h = (h, tt)
+all-more (y ∷ w) x all h = (all .0, all-more w x (all .1) h)
 
-  all-named : (b : ℕ) → AllName (part s b (ends (isName classOf) s b))
-  all-named b = run-named (length s) b (omega arith)
+-- a run of them
+all-named : (s : List ℕ) (b : ℕ) → AllName (part s b (ends (isName classOf) s b))
+all-named s b = run-keeps (isName classOf) s (λ (i : ℕ). (b ≤ i) × AllName (part s b i)) more b (omega arith, subst AllName (sym (part-none s b b (omega arith))) tt) .1
+  where
+    more : (i : ℕ) → has (isName classOf) s i ≡ true → (b ≤ i) × AllName (part s b i) → (b ≤ i + 1) × AllName (part s b (i + 1))
+    more i h p =
+        (omega (arith, p .0),
+        subst AllName (sym (part-more s b i (p .0) (has-lt (isName classOf) s i h))) (all-more (part s b i) (byteAt s i) (p .1) (has-byte (isName classOf) s i h)))
 
 -- ---- the machine in an end tag
 

@@ -1,5 +1,5 @@
 -- The machine reads names as `nameAt` does, in a start tag and in an attribute alike. Assumes nothing.
-use Prim.Native.Nat.{ℕ, zero, suc, _+_, _<_, _≤_}
+use Prim.Native.Nat.{ℕ, _+_, _<_, _≤_}
 use mathlib.Core.Path.{_≡_, refl, sym, _∙_, ap, subst}
 use mathlib.Core.Bool.{Bool, true, false, cond, not, _&&_, and-false}
 use mathlib.Core.List.{List, [], _∷_, _++_}
@@ -12,9 +12,9 @@ use Rattle.message.specs.Names.{Named, shortAt, partAt, nameAt}
 use Rattle.message.specs.Limits.{Limits}
 use Rattle.message.specs.Elements.{part}
 use Rattle.message.specs.Readable.{FirstPart, second}
-use Rattle.message.proofs.Laws.{cond-cases, has-out, has-lt, has-byte, one-yes, one-no, ends-more, ends-stop, fails-byte}
+use Rattle.message.proofs.Laws.{cond-cases, has-lt, has-byte, one-yes, one-no, ends-more, fails-byte}
 use Rattle.message.proofs.Parts.{part-more}
-use Rattle.message.proofs.Runs.{ends-fails, byte-is, start-name, start-in-name}
+use Rattle.message.proofs.Runs.{ends-fails, byte-is, start-name, start-in-name, run-keeps}
 use Rattle.message.proofs.Automaton.{State, dead, goes, only, step}
 use Rattle.message.proofs.Dues.{mayEnd, long, longPart, due, At}
 use Rattle.message.proofs.Going.{MarkedAt, Part, Roomy, longs, Outcome, outcome-then, at-has, stuck-here}
@@ -36,16 +36,13 @@ module _ (l : Limits) (s : List ℕ) where
     abbrev In : ℕ → Type 0
     In i = At l s (N .inPart t (part s b i)) i
 
-    run-turn : (i : ℕ) (u : Bool) → has (isName classOf) s i ≡ u → In i → (has (isName classOf) s i ≡ true → In (ends (isName classOf) s (i + 1))) → In (ends (isName classOf) s i)
-    run-turn i true h here more = rw (ends-more (isName classOf) s i h) (more h)
-    run-turn i false h here more = rw (ends-stop (isName classOf) s i h) here
-
-    run-on : (n i : ℕ) → length s ≤ n + i → b ≤ i → In i → In (ends (isName classOf) s i)
-    run-on zero i enough from here = rw (ends-stop (isName classOf) s i (has-out (isName classOf) s i (omega arith))) here
-    run-on (suc n) i enough from here =
-        run-turn i (has (isName classOf) s i) refl here (λ h. run-on n (i + 1) (omega arith) (omega arith)
-        (subst (λ (w : List ℕ). At l s (N .inPart t w) (i + 1)) (sym (part-more s b i from (has-lt (isName classOf) s i h)))
-        (at-has l s (isName classOf) i here h (N .free t (part s b i) i) (N .grows t (part s b i) (byteAt s i) (has-byte (isName classOf) s i h)))))
+    run-on : (i : ℕ) → b ≤ i → In i → In (ends (isName classOf) s i)
+    run-on i from here = run-keeps (isName classOf) s (λ (j : ℕ). (b ≤ j) × In j) grown i (from, here) .1
+      where
+        grown : (j : ℕ) → has (isName classOf) s j ≡ true → (b ≤ j) × In j → (b ≤ j + 1) × In (j + 1)
+        grown j h p =
+            let next = at-has l s (isName classOf) j (p .1) h (N .free t (part s b j) j) (N .grows t (part s b j) (byteAt s j) (has-byte (isName classOf) s j h)) in
+            (omega (arith, p .0), subst (λ (w : List ℕ). At l s (N .inPart t w) (j + 1)) (sym (part-more s b j (p .0) (has-lt (isName classOf) s j h))) next)
 
     -- before the first byte of a part, which begins at q, in a name that begins at b
     pub record Before (q : ℕ) : Type 0 where
@@ -73,7 +70,7 @@ module _ (l : Limits) (s : List ℕ) where
         run h short =
             let named : has (isName classOf) s q ≡ true = start-name classOf s q h in
             record {
-              here = rw (ends-more (isName classOf) s q named) (run-on (length s) (q + 1) (omega arith) (omega (arith, at-q .from)) (at-has l s (isStart classOf) q (at-q .here) h (at-q .looks h ∙ short) (at-q .starts h)));
+              here = rw (ends-more (isName classOf) s q named) (run-on (q + 1) (omega (arith, at-q .from)) (at-has l s (isStart classOf) q (at-q .here) h (at-q .looks h ∙ short) (at-q .starts h)));
               run = refl;
               on = start-in-name classOf s q h;
             }

@@ -1,6 +1,6 @@
 -- Where a part of a name begins, as specs/Readable says by readers, the machine stands before a part: if a long run of name bytes stands there it is due, or the
 -- byte is dead. Assumes nothing.
-use Prim.Native.Nat.{ℕ, zero, suc, _+_, _<_, _≤_}
+use Prim.Native.Nat.{ℕ, _+_, _<_}
 use mathlib.Core.Path.{_≡_, refl, sym, _∙_, ap, subst}
 use mathlib.Core.Logic.{_⊎_, inl, inr}
 use mathlib.Core.Bool.{Bool, true, false, not, _&&_, true≢false, or-true as or-yes}
@@ -14,8 +14,8 @@ use Rattle.message.specs.Reading.{is, byteAt, has, ends}
 use Rattle.message.specs.Limits.{Limits}
 use Rattle.message.specs.Readable.{MarkupMayBegin, FirstPart, of-start, of-end, of-attribute, PartStands}
 use Rattle.message.specs.Readable as readable
-use Rattle.message.proofs.Laws.{both-second, has-out, has-lt, has-byte, ends-more, ends-stop, ends-from, fails-byte}
-use Rattle.message.proofs.Runs.{byte-is}
+use Rattle.message.proofs.Laws.{both-second, has-lt, has-byte, ends-more, ends-from, fails-byte}
+use Rattle.message.proofs.Runs.{byte-is, run-keeps}
 use Rattle.message.proofs.Ways.{goes-dead, goes-same}
 use Rattle.message.proofs.Bytes.{Letter, name-letter, colon-letter, letter-not, letter-solid, colon-no-start, colon-no-name}
 use Rattle.message.proofs.Automaton.{Ground, first, before, behind, inside, State, ground, opened, name, colon, inTag, attribute, attributeColon, dead, goes, only, closing, step}
@@ -208,18 +208,15 @@ module _ (l : Limits) (s : List ℕ) (p : ℕ) (st : State) (here : At l s st p)
   abbrev PartTo : ℕ → Type 0
   PartTo e = (x : State) × At l s x e × InPart x
 
-  over-turn : (i : ℕ) (x : State) (t : Bool) → has (isName classOf) s i ≡ t → At l s x i → InPart x → ends (isName classOf) s i < p
-      → ((y : State) → At l s y (i + 1) → InPart y → ends (isName classOf) s (i + 1) < p → PartTo (ends (isName classOf) s (i + 1))) → PartTo (ends (isName classOf) s i)
-  over-turn i x true h at-i in-part less more =
-      let a = goes-at l s p st here i x at-i (omega (arith, ends-from (isName classOf) s i)) .1 in
-      let same : ends (isName classOf) s i ≡ ends (isName classOf) s (i + 1) = ends-more (isName classOf) s i h in
-      rw same (more (a .0) (a .2) (name-goes x (a .0) (byteAt s i) in-part (has-byte (isName classOf) s i h) (a .1)) (omega arith))
-  over-turn i x false h at-i in-part less more = rw (ends-stop (isName classOf) s i h) (x, at-i, in-part)
-
-  over-run : (n i : ℕ) (x : State) → length s ≤ n + i → At l s x i → InPart x → ends (isName classOf) s i < p → PartTo (ends (isName classOf) s i)
-  over-run zero i x enough at-i in-part less = rw (ends-stop (isName classOf) s i (has-out (isName classOf) s i (omega arith))) (x, at-i, in-part)
-  over-run (suc n) i x enough at-i in-part less =
-      over-turn i x (has (isName classOf) s i) refl at-i in-part less (λ y at-y in-y less-y. over-run n (i + 1) y (omega arith) at-y in-y less-y)
+  over-run : (i : ℕ) → ends (isName classOf) s i < p → PartTo i → PartTo (ends (isName classOf) s i)
+  over-run i less in-part =
+      run-keeps (isName classOf) s (λ (j : ℕ). (ends (isName classOf) s j < p) × PartTo j) over i (less, in-part) .1
+    where
+      over : (j : ℕ) → has (isName classOf) s j ≡ true → (ends (isName classOf) s j < p) × PartTo j → (ends (isName classOf) s (j + 1) < p) × PartTo (j + 1)
+      over j h q =
+          let a = goes-at l s p st here j (q .1 .0) (q .1 .1) (omega (arith, q .0, ends-from (isName classOf) s j)) .1 in
+          (omega (arith, q .0, ends-more (isName classOf) s j h),
+          (a .0, a .2, name-goes (q .1 .0) (a .0) (byteAt s j) (q .1 .2) (has-byte (isName classOf) s j h) (a .1)))
 
   -- behind the colon at e
   divided-at : (e : ℕ) → PartTo e → has (is 58) s e ≡ true → p ≡ e + 1 → Divided st
@@ -234,7 +231,7 @@ module _ (l : Limits) (s : List ℕ) (p : ℕ) (st : State) (here : At l s st p)
   second-divided at q may part colon-there p-is =
       let a = alive-before l s p q st here (omega (arith, ends-from (isName classOf) s q)) .1 in
       divided-at (ends (isName classOf) s q)
-      (over-run (length s) q (a .from) (omega arith) (a .here) (begun (first-begun l s q (a .from) (a .here) at may part)) (omega arith)) colon-there p-is
+      (over-run q (omega arith) (a .from, a .here, begun (first-begun l s q (a .from) (a .here) at may part))) colon-there p-is
 
 pub part-inverse : (l : Limits) (s : List ℕ) (p : ℕ) (st : State) → At l s st p → (at : ℕ) → MarkupMayBegin (take at s) → PartStands s at p
     → has (isName classOf) s p ≡ true → long l s p ≡ true
