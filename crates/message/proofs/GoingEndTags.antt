@@ -38,9 +38,10 @@ all-named : (s : List ℕ) (b : ℕ) → AllName (part s b (ends (isName classOf
 all-named s b = run-keeps (isName classOf) s (λ (i : ℕ). (b ≤ i) × AllName (part s b i)) more b (omega arith, subst AllName (sym (part-none s b b (omega arith))) tt) .1
   where
     more : (i : ℕ) → has (isName classOf) s i ≡ true → (b ≤ i) × AllName (part s b i) → (b ≤ i + 1) × AllName (part s b (i + 1))
-    more i h p =
-        (omega (arith, p .0),
-        subst AllName (sym (part-more s b i (p .0) (has-lt (isName classOf) s i h))) (all-more (part s b i) (byteAt s i) (p .1) (has-byte (isName classOf) s i h)))
+    more i h p = (
+      omega (arith, p .0),
+      subst AllName (sym (part-more s b i (p .0) (has-lt (isName classOf) s i h))) (all-more (part s b i) (byteAt s i) (p .1) (has-byte (isName classOf) s i h)),
+    )
 
 -- ---- the machine in an end tag
 

@@ -214,9 +214,10 @@ module _ (l : Limits) (s : List ℕ) (p : ℕ) (st : State) (here : At l s st p)
     where
       over : (j : ℕ) → has (isName classOf) s j ≡ true → (ends (isName classOf) s j < p) × PartTo j → (ends (isName classOf) s (j + 1) < p) × PartTo (j + 1)
       over j h q =
-          let a = goes-at l s p st here j (q .1 .0) (q .1 .1) (omega (arith, q .0, ends-from (isName classOf) s j)) .1 in
-          (omega (arith, q .0, ends-more (isName classOf) s j h),
-          (a .0, a .2, name-goes (q .1 .0) (a .0) (byteAt s j) (q .1 .2) (has-byte (isName classOf) s j h) (a .1)))
+          let a = goes-at l s p st here j (q .1 .0) (q .1 .1) (omega (arith, q .0, ends-from (isName classOf) s j)) .1 in (
+            omega (arith, q .0, ends-more (isName classOf) s j h),
+            (a .0, a .2, name-goes (q .1 .0) (a .0) (byteAt s j) (q .1 .2) (has-byte (isName classOf) s j h) (a .1)),
+          )
 
   -- behind the colon at e
   divided-at : (e : ℕ) → PartTo e → has (is 58) s e ≡ true → p ≡ e + 1 → Divided st
