@@ -36,7 +36,8 @@ pub steps-from : (st : State) (u v : List ℕ) (mid : State) → steps st u ≡ 
 steps-from st u v mid q = steps-append u v st ∙ ap (λ (n : Next). then-steps n v) q
 
 -- it was not dead behind them
-alive-first : (st : State) (u v : List ℕ) (end : State) → steps st (u ++ v) ≡ goes end → (mid : State) × (steps st u ≡ goes mid) × (steps mid v ≡ goes end)
+alive-first : (st : State) (u v : List ℕ) (end : State) → steps st (u ++ v) ≡ goes end
+    → (mid : State) × (steps st u ≡ goes mid) × (steps mid v ≡ goes end)
 alive-first st u v end q = go (steps st u) refl
   where
     go : (n : Next) → steps st u ≡ n → (mid : State) × (steps st u ≡ goes mid) × (steps mid v ≡ goes end)
@@ -49,14 +50,16 @@ pub whole-fits : (l : Limits) (s : List ℕ) (root : Element) → documentAt cla
 unfolding documentAt
 whole-fits l s root q = go (ltb (l .bytes) (length s)) refl q
   where
-    go : (t : Bool) → ltb (l .bytes) (length s) ≡ t → cond t (refused 8 0) (cond (eqb 0 0) (declaredOf classOf s) (whole 0) >>= rootAt classOf s l) ≡ whole root → length s ≤ l .bytes
+    go : (t : Bool) → ltb (l .bytes) (length s) ≡ t
+        → cond t (refused 8 0) (cond (eqb 0 0) (declaredOf classOf s) (whole 0) >>= rootAt classOf s l) ≡ whole root → length s ≤ l .bytes
     go true e r = let z : _≡_ {A = ℕ} 0 1 = cc in absurd (omega arith)
     go false e r = ltb-false (l .bytes) (length s) e
 
 pub readable-ends : (s : List ℕ) → Readable s → steps (ground first) s ≡ goes (ground behind)
 readable-ends s readable =
     let l : Limits = readable .0 in
-    let at-end : At l s (ground behind) (length s) = subst (Outcome l s (λ root. At l s (ground behind) (length s))) (readable .2) (going-document l s (whole-fits l s (readable .1) (readable .2))) in
+    let at-end : At l s (ground behind) (length s) = subst (Outcome l s (λ root. At l s (ground behind) (length s))) (readable .2)
+    (going-document l s (whole-fits l s (readable .1) (readable .2))) in
     ap (steps (ground first)) (sym (take-length s)) ∙ steps-at l s (length s) (ground behind) at-end
 
 -- limits out of the way
@@ -87,10 +90,13 @@ module _ (s : List ℕ) (ends : steps (ground first) s ≡ goes (ground behind))
   pub ends-readable : Readable s
   ends-readable = go (documentAt classOf s (free s) 0) refl (going-document (free s) s (omega arith))
     where
-      go : (r : Reading Element) → documentAt classOf s (free s) 0 ≡ r → Outcome (free s) s (λ root. At (free s) s (ground behind) (length s)) r → Readable s
+      go : (r : Reading Element) → documentAt classOf s (free s) 0 ≡ r
+          → Outcome (free s) s (λ root. At (free s) s (ground behind) (length s)) r → Readable s
       go (whole root) q outcome = (free s, root, q)
       go (refused n p) q stuck =
-          absurd (no-cause (stuck .0) p n (stuck .1) (stuck .2) (document-rest s (free s) (record { bytes = omega arith; levels = omega arith; attributes = omega arith; part = omega arith }) n p q))
+          absurd (no-cause (stuck .0) p n (stuck .1) (stuck .2)
+          (document-rest s (free s)
+          (record { bytes = omega arith; levels = omega arith; attributes = omega arith; part = omega arith }) n p q))
 
 -- ---- bytes that can be continued
 
@@ -106,26 +112,34 @@ module _ (l : Limits) (s : List ℕ) (st : State) (p : ℕ) (here : At l s st p)
 
   -- the byte there leads on, or does not
   one-more : p < length s → steps (ground first) (take (p + 1) s) ≡ steps st (byteAt s p ∷ [])
-  one-more within = ap (steps (ground first)) (ap (λ (i : ℕ). take i s) (add-one p) ∙ take-suc s p 0 within) ∙ steps-from (ground first) (take p s) (byteAt s p ∷ []) st (steps-at l s p st here)
+  one-more within =
+      ap (steps (ground first)) (ap (λ (i : ℕ). take i s) (add-one p) ∙ take-suc s p 0 within)
+      ∙ steps-from (ground first) (take p s) (byteAt s p ∷ []) st (steps-at l s p st here)
 
   pub goes-continues : p < length s → (next : State) → step st (byteAt s p) ≡ goes next → Continues (take (p + 1) s)
   unfolding steps
   goes-continues within next q = state-continues (take (p + 1) s) next (one-more within ∙ steps-on st (byteAt s p) [] q)
 
   pub dead-continues : p < length s → step st (byteAt s p) ≡ dead → Continues (take (p + 1) s) → ⊥
-  dead-continues within q on = let x = continues-state (take (p + 1) s) on in goes-dead (sym (x .1) ∙ one-more within ∙ steps-dead st (byteAt s p) [] q)
+  dead-continues within q on =
+      let x = continues-state (take (p + 1) s) on in goes-dead (sym (x .1) ∙ one-more within ∙ steps-dead st (byteAt s p) [] q)
 
   pub cut-readable : length s ≤ p → mayEnd st ≡ false → Readable s → ⊥
   cut-readable out more readable =
-      let last : st ≡ ground behind = goes-same (sym (ap (steps (ground first)) (sym (take-all p s out)) ∙ steps-at l s p st here) ∙ readable-ends s readable) in
+      let last : st ≡ ground behind =
+      goes-same (sym (ap (steps (ground first)) (sym (take-all p s out)) ∙ steps-at l s p st here) ∙ readable-ends s readable) in
       true≢false (sym (ap mayEnd last) ∙ more)
 
 -- ---- where markup may begin
 
 pub marked-may : (l : Limits) (s : List ℕ) (i : ℕ) → MarkedAt l s i → MarkupMayBegin (take i s)
-marked-may l s i marked = state-continues (take i s ++ aComment) (ground (rest (marked .0))) (steps-from (ground first) (take i s) aComment (ground (marked .0)) (steps-at l s i (ground (marked .0)) (marked .1)) ∙ ground-comment (marked .0))
+marked-may l s i marked =
+    state-continues (take i s ++ aComment) (ground (rest (marked .0)))
+    (steps-from (ground first) (take i s) aComment (ground (marked .0)) (steps-at l s i (ground (marked .0)) (marked .1))
+    ∙ ground-comment (marked .0))
 
 pub may-ground : (l : Limits) (s : List ℕ) (i : ℕ) (st : State) → At l s st i → MarkupMayBegin (take i s) → (g : Ground) × (st ≡ ground g)
 may-ground l s i st here may =
     let x = continues-state (take i s ++ aComment) may in
-    comment-ground st (sane-at l s i st here) (x .0) (sym (steps-from (ground first) (take i s) aComment st (steps-at l s i st here)) ∙ x .1)
+    comment-ground st (sane-at l s i st here) (x .0)
+    (sym (steps-from (ground first) (take i s) aComment st (steps-at l s i st here)) ∙ x .1)

@@ -36,7 +36,8 @@ module _ (l : Limits) (s : List ℕ) where
     acts-stuck dying = stuck-here l s (acts .here) (acts .more) (λ inside. acts .does inside ∙ dying inside)
 
     -- one byte, which is the only way on
-    pub acts-one : (next : State) (test : ℕ → Bool) → (has test s i ≡ true → f (byteAt s i) ≡ goes next) → (i < length s → has test s i ≡ false → f (byteAt s i) ≡ dead)
+    pub acts-one : (next : State) (test : ℕ → Bool) → (has test s i ≡ true → f (byteAt s i) ≡ goes next)
+        → (i < length s → has test s i ≡ false → f (byteAt s i) ≡ dead)
         → Outcome l s (λ e. At l s next e × (e ≡ i + 1)) (one test s i)
     acts-one next test passes fails =
         outcome-one l s next test i (acts .here) (acts .more) (λ h. acts .free) (λ h. acts .does (has-lt test s i h) ∙ passes h)
@@ -51,12 +52,14 @@ module _ (l : Limits) (s : List ℕ) where
   acts-at st i here more free = acting here more free (λ inside. refl)
 
   -- one byte, and a state behind it
-  pub acts-only : (next : State) (test : ℕ → Bool) (i : ℕ) → Acts (λ x. only (test x) next) i → Outcome l s (λ e. At l s next e × (e ≡ i + 1)) (one test s i)
+  pub acts-only : (next : State) (test : ℕ → Bool) (i : ℕ) → Acts (λ x. only (test x) next) i
+      → Outcome l s (λ e. At l s next e × (e ≡ i + 1)) (one test s i)
   acts-only next test i acts = acts-one acts next test (λ h. rw (has-byte test s i h)) (λ inside h. rw (fails-byte test s i inside h))
 
   -- White space before a byte, where the machine does what f does, and stays in a state that does the same once there was some: behind it the machine acts
   -- like f still.
-  pub acts-blanks : (f : ℕ → Next) (st : State) (i : ℕ) → Acts f i → ((x : ℕ) → isSpace classOf x ≡ true → f x ≡ goes st) → ((x : ℕ) → step st x ≡ f x) → mayEnd st ≡ false → ((j : ℕ) → due l s st j ≡ false) → Acts f (ends (isSpace classOf) s i)
+  pub acts-blanks : (f : ℕ → Next) (st : State) (i : ℕ) → Acts f i → ((x : ℕ) → isSpace classOf x ≡ true → f x ≡ goes st)
+      → ((x : ℕ) → step st x ≡ f x) → mayEnd st ≡ false → ((j : ℕ) → due l s st j ≡ false) → Acts f (ends (isSpace classOf) s i)
   acts-blanks f st i acts enters like more free = go (has (isSpace classOf) s i) refl
     where
       spaces : At l s st (i + 1) → At l s st (ends (isSpace classOf) s (i + 1))

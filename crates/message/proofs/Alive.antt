@@ -38,7 +38,8 @@ module _ (l : Limits) (s : List ℕ) where
   no-cause n i st next (deep g same h d levels) less free q =
       true≢false (sym (rw d (or-yes (opening l s g i))) ∙ and-true _ h ∙ ap (λ (x : State). due l s x i) (sym same) ∙ free)
   no-cause n i st next (crowded m seen o same h full room) less free q =
-      true≢false (or-true (long l s i) (le-leb (l .attributes) (length seen) (omega arith)) ∙ and-true _ h ∙ ap (λ (x : State). due l s x i) (sym same) ∙ free)
+      true≢false (or-true (long l s i) (le-leb (l .attributes) (length seen) (omega arith)) ∙ and-true _ h
+      ∙ ap (λ (x : State). due l s x i) (sym same) ∙ free)
   no-cause n i st next (opens g same h d) less free q =
       true≢false (or-true (tooDeep l s g i) d ∙ and-true _ h ∙ ap (λ (x : State). due l s x i) (sym same) ∙ free)
   no-cause n i st next (longs d long-there onward e room part) less free q = true≢false (sym d ∙ free)

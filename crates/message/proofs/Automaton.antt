@@ -33,7 +33,8 @@ abbrev pub laterTest : Test
 laterTest = record { passes = later; sample = 128; fits = between-yes 128 191 128 (omega arith) (omega arith) }
 
 -- the second of four bytes, and the second and the third of three
-pub second-four-fits : (lead : ℕ) (t u : Bool) → eqb lead 240 ≡ t → eqb lead 244 ≡ u → between (cond t 144 128) (cond u 143 191) (cond t 144 128) ≡ true
+pub second-four-fits : (lead : ℕ) (t u : Bool) → eqb lead 240 ≡ t → eqb lead 244 ≡ u
+    → between (cond t 144 128) (cond u 143 191) (cond t 144 128) ≡ true
 second-four-fits lead true true e q = absurd (omega (arith, eqb-true lead 240 e, eqb-true lead 244 q))
 second-four-fits lead true false e q = between-yes 144 191 144 (omega arith) (omega arith)
 second-four-fits lead false true e q = between-yes 128 143 128 (omega arith) (omega arith)
@@ -46,7 +47,8 @@ secondFour lead = record {
   fits = second-four-fits lead (eqb lead 240) (eqb lead 244) refl refl;
 }
 
-pub second-three-fits : (lead : ℕ) (t u : Bool) → eqb lead 224 ≡ t → eqb lead 237 ≡ u → between (cond t 160 128) (cond u 159 191) (cond t 160 128) ≡ true
+pub second-three-fits : (lead : ℕ) (t u : Bool) → eqb lead 224 ≡ t → eqb lead 237 ≡ u
+    → between (cond t 160 128) (cond u 159 191) (cond t 160 128) ≡ true
 second-three-fits lead true true e q = absurd (omega (arith, eqb-true lead 224 e, eqb-true lead 237 q))
 second-three-fits lead true false e q = between-yes 160 191 160 (omega arith) (omega arith)
 second-three-fits lead false true e q = between-yes 128 159 128 (omega arith) (omega arith)
@@ -231,7 +233,9 @@ step (opened g) x = cond (is 33 x) (goes (comment g)) (tag g x)
 step (expect t ts k) x = only (t .passes x) (expecting ts k)
 step (blanks t solid ts k) x = stepBlanks t solid ts k x
 step declared x = only (isSpace classOf x) versionWord
-step versionQuote x = cond (isSpace classOf x) (goes versionQuote) (only (isQuote x) (expect (exact 49) (exact 46 ∷ exact 48 ∷ exact x ∷ []) (versioned false)))
+step versionQuote x =
+    cond (isSpace classOf x) (goes versionQuote)
+    (only (isQuote x) (expect (exact 49) (exact 46 ∷ exact 48 ∷ exact x ∷ []) (versioned false)))
 step encodingQuote x = cond (isSpace classOf x) (goes encodingQuote) (only (isQuote x) (encodingName x))
 step (versioned spaced) x =
     cond (isSpace classOf x) (goes (versioned true))

@@ -113,7 +113,8 @@ letter-not = other-than isLetter
 pub letter-solid : (x : ℕ) → Letter x → isSpace classOf x ≡ false
 unfolding classOf
 letter-solid x h =
-    ⊎-elim (λ e. ne-eqb (classOf x) 3 (λ three. omega (arith, leb-true 4 (classOf x) e))) (λ e. rw (eqb-true x 58 e)) (either (isName classOf x) (eqb x 58) h)
+    ⊎-elim (λ e. ne-eqb (classOf x) 3 (λ three. omega (arith, leb-true 4 (classOf x) e))) (λ e. rw (eqb-true x 58 e))
+    (either (isName classOf x) (eqb x 58) h)
 
 -- ---- quotation marks
 

@@ -41,7 +41,8 @@ module _ (s : List ℕ) (l : Limits) where
     valued : quotedAt classOf s (name .end) ≡ whole value
     further : attributesAt classOf s l fuel (part s (place at) (name .end) ∷ seen) (value .to + 1) ≡ whole stop
 
-  turn : (fuel : ℕ) (seen : List (List ℕ)) (at stop : ℕ) → attributesAt classOf s l (suc fuel) seen at ≡ whole stop → (has endsTag s (place at) ≡ true) ⊎ Turn fuel seen at stop
+  turn : (fuel : ℕ) (seen : List (List ℕ)) (at stop : ℕ) → attributesAt classOf s l (suc fuel) seen at ≡ whole stop
+      → (has endsTag s (place at) ≡ true) ⊎ Turn fuel seen at stop
   unfolding attributesAt
   turn fuel seen at stop q = go (has endsTag s (place at)) refl q
     where
@@ -51,7 +52,8 @@ module _ (s : List ℕ) (l : Limits) where
       another : ℕ → Reading ℕ
       another e = quotedAt classOf s e >>= onward e
 
-      go : (t : Bool) → has endsTag s (place at) ≡ t → cond t (whole (place at)) (freshAt classOf s l seen at (place at) >>= another) ≡ whole stop
+      go : (t : Bool) → has endsTag s (place at) ≡ t
+          → cond t (whole (place at)) (freshAt classOf s l seen at (place at) >>= another) ≡ whole stop
           → (has endsTag s (place at) ≡ true) ⊎ Turn fuel seen at stop
       go true e h = inl e
       go false e h =
@@ -72,9 +74,11 @@ module _ (s : List ℕ) (l : Limits) where
     unfolding attributeCalled
     turn-called fuel seen at stop t = rw (t .named, t .valued)
 
-    called-named : (fuel at : ℕ) (v : Quoted) → attributeCalled classOf l s (suc fuel) w at ≡ whole v → has (isStart classOf) s (place at) ≡ true
+    called-named : (fuel at : ℕ) (v : Quoted) → attributeCalled classOf l s (suc fuel) w at ≡ whole v
+        → has (isStart classOf) s (place at) ≡ true
     unfolding attributeCalled
-    called-named fuel at v q = let x = then-whole _ (nameAt classOf (l .part) s (place at)) v q in name-is classOf s (place at) (l .part) (x .0) (x .1) .0
+    called-named fuel at v q =
+        let x = then-whole _ (nameAt classOf (l .part) s (place at)) v q in name-is classOf s (place at) (l .part) (x .0) (x .1) .0
 
     ended : {at to : ℕ} → AttributeStands s at to → has endsTag s (place at) ≡ true → ⊥
     ended {at = at} a e = no-name s (place at) e (name-is classOf s (place at) (a .named .0) (a .name) (a .named .1) .0)
@@ -92,13 +96,17 @@ module _ (s : List ℕ) (l : Limits) where
         past : has endsTag s (place at) ≡ true → Carries s w at v
         past e = absurd (no-name s (place at) e (called-named fuel at v h))
 
-        go : (t : Turn fuel seen at stop) → (attributeCalled classOf l s fuel w (t .value .to + 1) ≡ whole v → Carries s w (t .value .to + 1) v) → (b : Bool) → sameBytes (part s (place at) (t .name .end)) w ≡ b
+        go : (t : Turn fuel seen at stop)
+            → (attributeCalled classOf l s fuel w (t .value .to + 1) ≡ whole v → Carries s w (t .value .to + 1) v) → (b : Bool)
+            → sameBytes (part s (place at) (t .name .end)) w ≡ b
             → cond b (whole (t .value)) (attributeCalled classOf l s fuel w (t .value .to + 1)) ≡ whole v → Carries s w at v
-        go t further true same q = subst (Carries s w at) (whole-same q) (this (stands t) (same-eq (part s (place at) (t .name .end)) w same))
+        go t further true same q =
+            subst (Carries s w at) (whole-same q) (this (stands t) (same-eq (part s (place at) (t .name .end)) w same))
         go t further false same q = later (stands t) (λ e. true-false (ap (λ (u : List ℕ). sameBytes u w) e ∙ same-refl w) same) (further q)
 
     -- and what stands there is found
-    turn-same : {fuel : ℕ} {seen : List (List ℕ)} {at to stop : ℕ} (a : AttributeStands s at to) (t : Turn fuel seen at stop) → (a .name ≡ t .name) × (a .value ≡ t .value) × (to ≡ t .value .to + 1)
+    turn-same : {fuel : ℕ} {seen : List (List ℕ)} {at to stop : ℕ} (a : AttributeStands s at to) (t : Turn fuel seen at stop)
+        → (a .name ≡ t .name) × (a .value ≡ t .value) × (to ≡ t .value .to + 1)
     turn-same {at = at} a t =
         let n : a .name ≡ t .name = name-same classOf s (place at) (a .named .0) (l .part) (a .name) (t .name) (a .named .1) (t .named) in
         let v : a .value ≡ t .value = whole-same (sym (a .valued) ∙ (ap (λ (m : Named). quotedAt classOf s (m .end)) n ∙ t .valued)) in
@@ -114,15 +122,20 @@ module _ (s : List ℕ) (l : Limits) where
         go t =
             let x = turn-same a t in
             let e : part s (place at) (t .name .end) ≡ w = ap (λ (n : Named). part s (place at) (n .end)) (sym (x .0)) ∙ same in
-            turn-called fuel seen at stop t ∙ (sym (cond-true _ (ap (λ (u : List ℕ). sameBytes u w) e ∙ same-refl w)) ∙ ap whole (sym (x .1)))
+            turn-called fuel seen at stop t
+            ∙ (sym (cond-true _ (ap (λ (u : List ℕ). sameBytes u w) e ∙ same-refl w)) ∙ ap whole (sym (x .1)))
     carries-called (suc fuel) seen at stop v q (later {to = to} a other c) =
         ⊎-elim (λ e. absurd (ended a e))
         (λ t. go t (carries-called fuel (part s (place at) (t .name .end) ∷ seen) (t .value .to + 1) stop v (t .further)))
         (turn fuel seen at stop q)
       where
-        go : (t : Turn fuel seen at stop) → (Carries s w (t .value .to + 1) v → attributeCalled classOf l s fuel w (t .value .to + 1) ≡ whole v) → attributeCalled classOf l s (suc fuel) w at ≡ whole v
+        go : (t : Turn fuel seen at stop)
+            → (Carries s w (t .value .to + 1) v → attributeCalled classOf l s fuel w (t .value .to + 1) ≡ whole v)
+            → attributeCalled classOf l s (suc fuel) w at ≡ whole v
         go t further =
             let x = turn-same a t in
-            let named : part s (place at) (a .name .end) ≡ part s (place at) (t .name .end) = ap (λ (n : Named). part s (place at) (n .end)) (x .0) in
-            let differs : sameBytes (part s (place at) (t .name .end)) w ≡ false = never _ (λ e. other (named ∙ same-eq (part s (place at) (t .name .end)) w e)) in
+            let named : part s (place at) (a .name .end) ≡ part s (place at) (t .name .end) =
+            ap (λ (n : Named). part s (place at) (n .end)) (x .0) in
+            let differs : sameBytes (part s (place at) (t .name .end)) w ≡ false =
+            never _ (λ e. other (named ∙ same-eq (part s (place at) (t .name .end)) w e)) in
             turn-called fuel seen at stop t ∙ (sym (cond-false _ differs) ∙ further (subst (λ (i : ℕ). Carries s w i v) (x .2) c))

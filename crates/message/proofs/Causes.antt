@@ -26,8 +26,15 @@ use Rattle.message.proofs.Sound.{sane-at}
 use Rattle.message.proofs.Spelling.{opening-stands}
 use Rattle.message.proofs.Ways.{steps-at, at-within}
 
-in-tag-goes : (n : List ℕ) (seen o : List (List ℕ)) (x : ℕ) → isStart classOf x ≡ true → step (inTag true n seen o) x ≡ goes (automaton.attribute false (x ∷ []) n seen o)
-in-tag-goes n seen o x start = rw (start-no-space x start, other-than (isStart classOf) 47 slash-no-start x start, other-than (isStart classOf) 62 greater-no-start x start, start)
+in-tag-goes : (n : List ℕ) (seen o : List (List ℕ)) (x : ℕ) → isStart classOf x ≡ true
+    → step (inTag true n seen o) x ≡ goes (automaton.attribute false (x ∷ []) n seen o)
+in-tag-goes n seen o x start =
+    rw (
+      start-no-space x start,
+      other-than (isStart classOf) 47 slash-no-start x start,
+      other-than (isStart classOf) 62 greater-no-start x start,
+      start,
+    )
 
 module _ (s : List ℕ) where
   -- ---- levels
@@ -42,24 +49,33 @@ module _ (s : List ℕ) where
     names = v ∷ o;
     many = levels;
     named = sane-at linkLimits s p (ground (inside b v o)) here;
-    closed = ends-readable (take p s ++ endTags (v ∷ o)) (steps-from (ground first) (take p s) (endTags (v ∷ o)) (ground (inside b v o)) (steps-at linkLimits s p (ground (inside b v o)) here) ∙ finishes (ground (inside b v o)));
+    closed = ends-readable (take p s ++ endTags (v ∷ o))
+        (steps-from (ground first) (take p s) (endTags (v ∷ o)) (ground (inside b v o))
+        (steps-at linkLimits s p (ground (inside b v o)) here)
+        ∙ finishes (ground (inside b v o)));
   }
 
   -- ---- each cause
 
   pub cause-due : (st : State) (p n : ℕ) → Here s st p → Cause linkLimits s st p n → Due s n p
-  cause-due st p n here (dies within dying) = dead p within (at-continues linkLimits s st p here) (dead-continues linkLimits s st p here within dying)
+  cause-due st p n here (dies within dying) =
+      dead p within (at-continues linkLimits s st p here) (dead-continues linkLimits s st p here within dying)
   cause-due st p n here (cut out more) =
       let all : length s ≡ p = omega (arith, at-within linkLimits s p st here) in
-      subst (Due s 9) all (unfinished (subst Continues (take-all p s out) (at-continues linkLimits s st p here)) (cut-readable linkLimits s st p here out more))
+      subst (Due s 9) all (unfinished (subst Continues (take-all p s out) (at-continues linkLimits s st p here))
+      (cut-readable linkLimits s st p here out more))
   cause-due st p n here (deep g q tag far levels) =
-      level p (ground-open g p (subst (λ (x : State). Here s x p) q here) levels) tag (both-second (leb 32 (depth g) && not (isBehind g)) (has (isStart classOf) s (p + 1)) far)
+      level p (ground-open g p (subst (λ (x : State). Here s x p) q here) levels) tag
+      (both-second (leb 32 (depth g) && not (isBehind g)) (has (isStart classOf) s (p + 1)) far)
   cause-due st p n here (crowded m seen o q start many crowd) =
       subst (Due s 11) (sym (crowd .begins))
-      (attribute (crowd .at) (crowd .to) (marked-may linkLimits s (crowd .at) (crowd .marked)) (subst (λ (k : ℕ). TagStands s (crowd .at) k (crowd .to)) many (crowd .stands)) (crowd .space) (subst (λ (i : ℕ). has (isStart classOf) s i ≡ true) (crowd .begins) start))
+      (attribute (crowd .at) (crowd .to) (marked-may linkLimits s (crowd .at) (crowd .marked))
+      (subst (λ (k : ℕ). TagStands s (crowd .at) k (crowd .to)) many (crowd .stands)) (crowd .space)
+      (subst (λ (i : ℕ). has (isStart classOf) s i ≡ true) (crowd .begins) start))
   cause-due st p n here (opens g q tag open-there) =
       let at-ground : Here s (ground g) p = subst (λ (x : State). Here s x p) q here in
-      opening p (marked-may linkLimits s p (g, at-ground)) (opening-stands s linkLimits g p (at-start linkLimits s p g at-ground) tag open-there)
+      opening p (marked-may linkLimits s p (g, at-ground))
+      (opening-stands s linkLimits g p (at-start linkLimits s p g at-ground) tag open-there)
   cause-due st p n here (longs due far next q roomy part) =
       long (part .at) p (marked-may linkLimits s (part .at) (part .marked)) (part .stands) (ltb-true 64 (ends (isName classOf) s p - p) far)
 
@@ -71,18 +87,24 @@ module _ (s : List ℕ) where
       go true h = h
       go false h = absurd (omega (arith, ends-stop (isName classOf) s p h))
 
-  tag-goes : (st : State) (g : Ground) (p : ℕ) → Here s st p → st ≡ ground g → has (is 60) s p ≡ true → (p < length s) × Continues (take (p + 1) s)
-  tag-goes st g p here q tag =
-      (has-lt (is 60) s p tag, goes-continues linkLimits s st p here (has-lt (is 60) s p tag) (opened g) (ap (λ (x : State). step x (byteAt s p)) q ∙ rw (has-byte (is 60) s p tag)))
+  tag-goes : (st : State) (g : Ground) (p : ℕ) → Here s st p → st ≡ ground g → has (is 60) s p ≡ true
+      → (p < length s) × Continues (take (p + 1) s)
+  tag-goes st g p here q tag = (
+    has-lt (is 60) s p tag,
+    goes-continues linkLimits s st p here (has-lt (is 60) s p tag) (opened g)
+        (ap (λ (x : State). step x (byteAt s p)) q ∙ rw (has-byte (is 60) s p tag)),
+  )
 
   -- a byte that is refused with another number than 9 could have gone on
-  pub cause-goes : (st : State) (p n : ℕ) → Here s st p → Cause linkLimits s st p n → (n ≡ 9 → ⊥) → (p < length s) × Continues (take (p + 1) s)
+  pub cause-goes : (st : State) (p n : ℕ) → Here s st p → Cause linkLimits s st p n → (n ≡ 9 → ⊥)
+      → (p < length s) × Continues (take (p + 1) s)
   cause-goes st p n here (dies within dying) other = absurd (other refl)
   cause-goes st p n here (cut out more) other = absurd (other refl)
   cause-goes st p n here (deep g q tag far levels) other = tag-goes st g p here q tag
   cause-goes st p n here (crowded m seen o q start many crowd) other = (
     has-lt (isStart classOf) s p start,
-    goes-continues linkLimits s st p here (has-lt (isStart classOf) s p start) _ (ap (λ (x : State). step x (byteAt s p)) q ∙ in-tag-goes m seen o (byteAt s p) (has-byte (isStart classOf) s p start)),
+    goes-continues linkLimits s st p here (has-lt (isStart classOf) s p start) _
+        (ap (λ (x : State). step x (byteAt s p)) q ∙ in-tag-goes m seen o (byteAt s p) (has-byte (isStart classOf) s p start)),
   )
   cause-goes st p n here (opens g q tag open-there) other = tag-goes st g p here q tag
   cause-goes st p n here (longs due far next q roomy part) other =

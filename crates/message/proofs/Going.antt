@@ -65,7 +65,8 @@ module _ (l : Limits) (s : List ℕ) where
   Outcome P (whole x) = P x
   Outcome P (refused n p) = Stuck n p
 
-  pub outcome-then : {A B : Type 0} (P : A → Type 0) (Q : B → Type 0) (next : A → Reading B) (a : Reading A) → Outcome P a → ((x : A) → a ≡ whole x → P x → Outcome Q (next x)) → Outcome Q (a >>= next)
+  pub outcome-then : {A B : Type 0} (P : A → Type 0) (Q : B → Type 0) (next : A → Reading B) (a : Reading A) → Outcome P a
+      → ((x : A) → a ≡ whole x → P x → Outcome Q (next x)) → Outcome Q (a >>= next)
   outcome-then P Q next (whole x) h g = g x refl h
   outcome-then P Q next (refused n p) h g = h
 
@@ -76,12 +77,14 @@ module _ (l : Limits) (s : List ℕ) where
 
   -- ---- the machine's steps
 
-  at-step : {st next : State} (i : ℕ) → At l s st i → i < length s → due l s st i ≡ false → step st (byteAt s i) ≡ goes next → At l s next (i + 1)
+  at-step : {st next : State} (i : ℕ) → At l s st i → i < length s → due l s st i ≡ false → step st (byteAt s i) ≡ goes next
+      → At l s next (i + 1)
   unfolding stateAt
   at-step i here inside free goes-on = rw (add-one, here, lt-ltb i (length s) inside, free) goes-on
 
   -- on a byte that passes a test
-  pub at-has : {st next : State} (test : ℕ → Bool) (i : ℕ) → At l s st i → has test s i ≡ true → due l s st i ≡ false → step st (byteAt s i) ≡ goes next → At l s next (i + 1)
+  pub at-has : {st next : State} (test : ℕ → Bool) (i : ℕ) → At l s st i → has test s i ≡ true → due l s st i ≡ false
+      → step st (byteAt s i) ≡ goes next → At l s next (i + 1)
   at-has test i here h free goes-on = at-step i here (has-lt test s i h) free goes-on
 
   -- a state that the message may not end in, and that no byte leads on from
@@ -97,7 +100,8 @@ module _ (l : Limits) (s : List ℕ) where
 
   -- one byte, which is the only way on
   pub outcome-one : {st : State} (next : State) (test : ℕ → Bool) (i : ℕ) → At l s st i → mayEnd st ≡ false
-      → (has test s i ≡ true → due l s st i ≡ false) → (has test s i ≡ true → step st (byteAt s i) ≡ goes next) → (i < length s → has test s i ≡ false → step st (byteAt s i) ≡ dead)
+      → (has test s i ≡ true → due l s st i ≡ false) → (has test s i ≡ true → step st (byteAt s i) ≡ goes next)
+      → (i < length s → has test s i ≡ false → step st (byteAt s i) ≡ dead)
       → Outcome (λ e. At l s next e × (e ≡ i + 1)) (one test s i)
   outcome-one {st = st} next test i here goes-on free passes fails = go (has test s i) refl
     where
@@ -106,21 +110,26 @@ module _ (l : Limits) (s : List ℕ) where
       go false h = rw (one-no test s i h) (stuck-here here goes-on (λ inside. fails inside h))
 
   -- as many bytes as pass a test and leave the machine where it is
-  pub at-ends : {st : State} (test : ℕ → Bool) → ((i : ℕ) → has test s i ≡ true → due l s st i ≡ false) → ((x : ℕ) → test x ≡ true → step st x ≡ goes st)
+  pub at-ends : {st : State} (test : ℕ → Bool) → ((i : ℕ) → has test s i ≡ true → due l s st i ≡ false)
+      → ((x : ℕ) → test x ≡ true → step st x ≡ goes st)
       → (i : ℕ) → At l s st i → At l s st (ends test s i)
-  at-ends {st = st} test free stays = run-keeps test s (At l s st) (λ i h here. at-has test i here h (free i h) (stays (byteAt s i) (has-byte test s i h)))
+  at-ends {st = st} test free stays =
+      run-keeps test s (At l s st) (λ i h here. at-has test i here h (free i h) (stays (byteAt s i) (has-byte test s i h)))
 
   -- ---- a word
 
   -- one byte that has to come
-  pub outcome-expect : (t : Test) (ts : List Test) (k : State) (i : ℕ) → At l s (expect t ts k) i → Outcome (λ e. At l s (expecting ts k) e × (e ≡ i + 1)) (one (t .passes) s i)
+  pub outcome-expect : (t : Test) (ts : List Test) (k : State) (i : ℕ) → At l s (expect t ts k) i
+      → Outcome (λ e. At l s (expecting ts k) e × (e ≡ i + 1)) (one (t .passes) s i)
   outcome-expect t ts k i here =
       outcome-one (expecting ts k) (t .passes) i here refl (λ h. refl) (λ h. rw (has-byte (t .passes) s i h))
       (λ inside h. rw (fails-byte (t .passes) s i inside h))
 
-  pub outcome-word : (w : List ℕ) (ts : List Test) (k : State) (i : ℕ) → At l s (expecting (exactly w ++ ts) k) i → Outcome (λ e. At l s (expecting ts k) e) (wordAt w s i)
+  pub outcome-word : (w : List ℕ) (ts : List Test) (k : State) (i : ℕ) → At l s (expecting (exactly w ++ ts) k) i
+      → Outcome (λ e. At l s (expecting ts k) e) (wordAt w s i)
   unfolding wordAt
   outcome-word [] ts k i here = here
   outcome-word (b ∷ w) ts k i here =
-      outcome-then (λ e. At l s (expecting (exactly w ++ ts) k) e × (e ≡ i + 1)) (λ e. At l s (expecting ts k) e) (wordAt w s) (one (is b) s i)
+      outcome-then (λ e. At l s (expecting (exactly w ++ ts) k) e × (e ≡ i + 1)) (λ e. At l s (expecting ts k) e) (wordAt w s)
+      (one (is b) s i)
       (outcome-expect (exact b) (exactly w ++ ts) k i here) (λ e q h. outcome-word w ts k e (h .0))

@@ -49,7 +49,8 @@ module _ (l : Limits) (s : List ℕ) where
       outcome-then l s (λ e. At l s k e × (e ≡ j + 1)) (Behind k) _ (one later s j)
       (outcome-expect l s laterTest [] k j (h .0)) (λ e r g. g .0))
 
-  going-four : (k : State) (i : ℕ) → Acts l s (λ x. only (between 240 244 x) (expect (secondFour x) (laterTest ∷ laterTest ∷ []) k)) i → Outcome l s (Behind k) (fourAt s i)
+  going-four : (k : State) (i : ℕ) → Acts l s (λ x. only (between 240 244 x) (expect (secondFour x) (laterTest ∷ laterTest ∷ []) k)) i
+      → Outcome l s (Behind k) (fourAt s i)
   unfolding fourAt
   going-four k i here =
       let three = expect (secondFour (byteAt s i)) (laterTest ∷ laterTest ∷ []) k in
@@ -96,24 +97,30 @@ module _ (l : Limits) (s : List ℕ) where
       more m (next .0, acts-has l s acts (isDigit (base hex)) digits (next .1)))
       (λ t. acts-stuck l s acts (λ inside. numbered-great hex m k (leb m 1114111) refl t)))
 
-  going-digits : (hex : Bool) (k : State) (fuel n i : ℕ) → length s ≤ fuel + i → Numbered hex k n i → Outcome l s (Counted hex k) (digitsAt fuel (base hex) n s i)
+  going-digits : (hex : Bool) (k : State) (fuel n i : ℕ) → length s ≤ fuel + i → Numbered hex k n i
+      → Outcome l s (Counted hex k) (digitsAt fuel (base hex) n s i)
   unfolding digitsAt
   going-digits hex k zero n i enough here = (number hex n (here .0) k, here .1, cut (omega arith) refl)
-  going-digits hex k (suc fuel) n i enough here = go (has (isDigit (base hex)) s i) refl (λ m h. going-digits hex k fuel m (i + 1) (omega arith) h)
+  going-digits hex k (suc fuel) n i enough here =
+      go (has (isDigit (base hex)) s i) refl (λ m h. going-digits hex k fuel m (i + 1) (omega arith) h)
     where
-      go : (t : Bool) → has (isDigit (base hex)) s i ≡ t → ((m : ℕ) → Numbered hex k m (i + 1) → Outcome l s (Counted hex k) (digitsAt fuel (base hex) m s (i + 1)))
+      go : (t : Bool) → has (isDigit (base hex)) s i ≡ t
+          → ((m : ℕ) → Numbered hex k m (i + 1) → Outcome l s (Counted hex k) (digitsAt fuel (base hex) m s (i + 1)))
           → Outcome l s (Counted hex k) (digitsAt (suc fuel) (base hex) n s i)
-      go true t more = going-digit hex k fuel n i (acting l s (here .1) refl refl (λ inside. rw (has-byte (isDigit (base hex)) s i t))) t more
+      go true t more =
+          going-digit hex k fuel n i (acting l s (here .1) refl refl (λ inside. rw (has-byte (isDigit (base hex)) s i t))) t more
       go false t more = rw t (here, t)
 
   -- a byte without which the machine dies
-  there : (test : ℕ → Bool) (next : ℕ → Next) (i : ℕ) → Acts l s (λ x. cond (test x) (next x) dead) i → Outcome l s (λ e. has test s i ≡ true) (one test s i)
+  there : (test : ℕ → Bool) (next : ℕ → Next) (i : ℕ) → Acts l s (λ x. cond (test x) (next x) dead) i
+      → Outcome l s (λ e. has test s i ≡ true) (one test s i)
   unfolding one
   there test next i acts =
       cond-cases (Outcome l s (λ e. has test s i ≡ true)) (has test s i) (λ t. t)
       (λ t. acts-stuck l s acts (λ inside. rw (fails-byte test s i inside t)))
 
-  going-numbered : (hex : Bool) (k : State) (i : ℕ) → Acts l s (λ x. cond (isDigit (base hex) x) (digit hex 0 k x) dead) i → Outcome l s (Behind k) (numberedAt (base hex) s i)
+  going-numbered : (hex : Bool) (k : State) (i : ℕ) → Acts l s (λ x. cond (isDigit (base hex) x) (digit hex 0 k x) dead) i
+      → Outcome l s (Behind k) (numberedAt (base hex) s i)
   unfolding numberedAt
   going-numbered hex k i here =
       let digits = isDigit (base hex) in
@@ -122,11 +129,13 @@ module _ (l : Limits) (s : List ℕ) where
       (going-digit hex k (length s) 0 i (acts-as l s here _ (λ inside. rw (has-byte digits s i t))) t
       (λ m h. going-digits hex k (length s) m (i + 1) (omega arith) h)) (λ c r h.
       outcome-then l s (λ e. At l s k e × (e ≡ c .end + 1)) (Behind k) _ (one (closes (c .code)) s (c .end))
-      (acts-only l s k (closes (c .code)) (c .end) (acting l s (h .0 .1) refl refl (λ inside. rw (fails-byte digits s (c .end) inside (h .1))))) (λ e u g. g .0)))
+      (acts-only l s k (closes (c .code)) (c .end)
+      (acting l s (h .0 .1) refl refl (λ inside. rw (fails-byte digits s (c .end) inside (h .1))))) (λ e u g. g .0)))
 
   -- ---- references by a name
 
-  going-stands : (k : State) (b : ℕ) (w : List ℕ) (c i : ℕ) → Acts l s (λ x. only (is b x) (expecting (exactly w ++ []) k)) i → Outcome l s (Behind k) (standsAt (b ∷ w) c s i)
+  going-stands : (k : State) (b : ℕ) (w : List ℕ) (c i : ℕ) → Acts l s (λ x. only (is b x) (expecting (exactly w ++ []) k)) i
+      → Outcome l s (Behind k) (standsAt (b ∷ w) c s i)
   unfolding standsAt wordAt
   going-stands k b w c i here =
       outcome-then l s (λ e. At l s k e) (Behind k) _ (wordAt (b ∷ w) s i)
@@ -138,10 +147,12 @@ module _ (l : Limits) (s : List ℕ) where
   going-predefined k i here sharp =
       let not-sharp : (i < length s → is 35 (byteAt s i) ≡ false) = (λ inside. fails-byte (is 35) s i inside sharp) in
       cond-cases (Outcome l s (Behind k)) (has (is 108) s i)
-      (λ t. going-stands k 108 (116 ∷ 59 ∷ []) 60 i (acting l s here refl refl (λ inside. rw (not-sharp inside, has-byte (is 108) s i t)))) (λ t.
+      (λ t. going-stands k 108 (116 ∷ 59 ∷ []) 60 i (acting l s here refl refl (λ inside. rw (not-sharp inside, has-byte (is 108) s i t))))
+      (λ t.
       let not-l : (i < length s → is 108 (byteAt s i) ≡ false) = (λ inside. fails-byte (is 108) s i inside t) in
       cond-cases (Outcome l s (Behind k)) (has (is 103) s i)
-      (λ u. going-stands k 103 (116 ∷ 59 ∷ []) 62 i (acting l s here refl refl (λ inside. rw (not-sharp inside, not-l inside, has-byte (is 103) s i u)))) (λ u.
+      (λ u. going-stands k 103 (116 ∷ 59 ∷ []) 62 i
+      (acting l s here refl refl (λ inside. rw (not-sharp inside, not-l inside, has-byte (is 103) s i u)))) (λ u.
       let not-g : (i < length s → is 103 (byteAt s i) ≡ false) = (λ inside. fails-byte (is 103) s i inside u) in
       cond-cases (Outcome l s (Behind k)) (has (is 113) s i)
       (λ v.
@@ -149,15 +160,18 @@ module _ (l : Limits) (s : List ℕ) where
       (acting l s here refl refl (λ inside. rw (not-sharp inside, not-l inside, not-g inside, has-byte (is 113) s i v)))) (λ v.
       let not-q : (i < length s → is 113 (byteAt s i) ≡ false) = (λ inside. fails-byte (is 113) s i inside v) in
       outcome-then l s (λ j. At l s (ampersandA k) j × (j ≡ i + 1)) (Behind k) _ (one (is 97) s i)
-      (acts-only l s (ampersandA k) (is 97) i (acting l s here refl refl (λ inside. rw (not-sharp inside, not-l inside, not-g inside, not-q inside)))) (λ j q h.
+      (acts-only l s (ampersandA k) (is 97) i
+      (acting l s here refl refl (λ inside. rw (not-sharp inside, not-l inside, not-g inside, not-q inside)))) (λ j q h.
       cond-cases (Outcome l s (Behind k)) (has (is 109) s j)
       (λ w. going-stands k 109 (112 ∷ 59 ∷ []) 38 j (acting l s (h .0) refl refl (λ inside. rw (has-byte (is 109) s j w))))
-      (λ w. going-stands k 112 (111 ∷ 115 ∷ 59 ∷ []) 39 j (acting l s (h .0) refl refl (λ inside. rw (fails-byte (is 109) s j inside w))))))))
+      (λ w. going-stands k 112 (111 ∷ 115 ∷ 59 ∷ []) 39 j
+      (acting l s (h .0) refl refl (λ inside. rw (fails-byte (is 109) s j inside w))))))))
 
   -- ---- references
 
   -- behind the `&`
-  going-referenced : (k : State) (i : ℕ) → At l s (ampersand k) i → Outcome l s (Behind k) (cond (has (is 35) s i) (cond (has (is 120) s (i + 1)) (numberedAt 16 s (i + 2)) (numberedAt 10 s (i + 1))) (predefinedAt s i))
+  going-referenced : (k : State) (i : ℕ) → At l s (ampersand k) i
+      → Outcome l s (Behind k) (cond (has (is 35) s i) (cond (has (is 120) s (i + 1)) (numberedAt 16 s (i + 2)) (numberedAt 10 s (i + 1))) (predefinedAt s i))
   going-referenced k i here =
       cond-cases (Outcome l s (Behind k)) (has (is 35) s i) (λ t.
       let behind : At l s (hash k) (i + 1) = at-has l s (is 35) i here t refl (rw (has-byte (is 35) s i t)) in

@@ -46,15 +46,18 @@ module _ (l : Limits) (s : List ℕ) where
     no-bang : has (is 33) s (i + 1) ≡ false
     no-question : has (is 63) s (i + 1) ≡ false
 
-  going-free : (v : List ℕ) (o : List (List ℕ)) (fuel b i : ℕ) → length s ≤ fuel + i → Safe l s b i → At l s (ground (inside b v o)) i → Outcome l s (AtTag v o) (freeAt classOf s fuel i)
+  going-free : (v : List ℕ) (o : List (List ℕ)) (fuel b i : ℕ) → length s ≤ fuel + i → Safe l s b i → At l s (ground (inside b v o)) i
+      → Outcome l s (AtTag v o) (freeAt classOf s fuel i)
   unfolding freeAt
   going-free v o zero b i enough safe here = stuck-here l s here refl (λ within. absurd (omega arith))
   going-free v o (suc fuel) b i enough safe here =
-      outcome-then l s _ (AtTag v o) _ (textAt classOf (length s) s i) (going-text l s v o (length s) b i (omega arith) safe here) (λ stop q at-stop.
+      outcome-then l s _ (AtTag v o) _ (textAt classOf (length s) s i) (going-text l s v o (length s) b i (omega arith) safe here)
+      (λ stop q at-stop.
       let on : i ≤ stop = text-whole classOf s i stop q .0 in
       cond-cases (Outcome l s (AtTag v o)) (has (is 33) s (stop + 1))
       (λ h.
-      outcome-then l s _ (AtTag v o) _ (bangAt classOf s stop) (going-bang l s (inside (at-stop .0) v o) stop (at-stop .1) (at-stop .2) h) (λ e r at-e.
+      outcome-then l s _ (AtTag v o) _ (bangAt classOf s stop)
+      (going-bang l s (inside (at-stop .0) v o) stop (at-stop .1) (at-stop .2) h) (λ e r at-e.
       let past : stop < e = past-whole (λ x. x) (length s) stop r (past-bang classOf s stop stop (omega arith)) .0 in
       going-free v o fuel 0 e (omega arith) tt at-e))
       (λ no-bang.
@@ -65,22 +68,28 @@ module _ (l : Limits) (s : List ℕ) where
   -- ---- content, where the elements one level down are read rightly
 
   abbrev Child : (ℕ → Reading Element) → ℕ → Type 0
-  Child child d = (g : Ground) (i : ℕ) → d + depth g ≡ l .levels → Place l s g i → Outcome l s (λ e. At l s (after (names g)) (e .tag .end)) (child i)
+  Child child d =
+      (g : Ground) (i : ℕ) → d + depth g ≡ l .levels → Place l s g i → Outcome l s (λ e. At l s (after (names g)) (e .tag .end)) (child i)
 
   module _ (d : ℕ) (child : Child (elementAt classOf s l d) d) (start : Start) (o : List (List ℕ)) (deep-enough : d + suc (length o) ≡ l .levels) (shape : Shape classOf s (start .begin) (start .name)) where
     abbrev v : List ℕ
     v = part s (start .begin) (start .name .end)
 
-    going-closed : (i : ℕ) → AtTag v o i → has (is 47) s (i + 1) ≡ true → Outcome l s (λ e. At l s (after o) e) (endTagAt classOf s l (start .begin) (start .name) (i + 2))
+    going-closed : (i : ℕ) → AtTag v o i → has (is 47) s (i + 1) ≡ true
+        → Outcome l s (λ e. At l s (after o) e) (endTagAt classOf s l (start .begin) (start .name) (i + 2))
     going-closed i at-tag h =
         let g : Ground = inside (at-tag .bracketed) v o in
         let no-start : has (isStart classOf) s (i + 1) ≡ false = has-known 47 s (i + 1) h (isStart classOf) ∙ slash-no-start in
-        let free : due l s (ground g) i ≡ false = rw (at-tag .tagged, at-tag .no-bang, at-tag .no-question, no-start) (and-false (leb (l .levels) (suc (length o)) && true)) in
-        let at-opened : At l s (opened g) (i + 1) = at-has l s (is 60) i (at-tag .here) (at-tag .tagged) free (rw (has-byte (is 60) s i (at-tag .tagged))) in
-        let closes : step (opened g) (byteAt s (i + 1)) ≡ goes (closing v true o) = rw (fails-byte (is 33) s (i + 1) (has-lt (is 47) s (i + 1) h) (at-tag .no-bang), has-byte (is 47) s (i + 1) h) in
+        let free : due l s (ground g) i ≡ false =
+        rw (at-tag .tagged, at-tag .no-bang, at-tag .no-question, no-start) (and-false (leb (l .levels) (suc (length o)) && true)) in
+        let at-opened : At l s (opened g) (i + 1) =
+        at-has l s (is 60) i (at-tag .here) (at-tag .tagged) free (rw (has-byte (is 60) s i (at-tag .tagged))) in
+        let closes : step (opened g) (byteAt s (i + 1)) ≡ goes (closing v true o) =
+        rw (fails-byte (is 33) s (i + 1) (has-lt (is 47) s (i + 1) h) (at-tag .no-bang), has-byte (is 47) s (i + 1) h) in
         let at-close : At l s (closing v true o) (i + 1 + 1) = at-has l s (is 47) (i + 1) at-opened h (rw no-start) closes in
         let two : i + 1 + 1 ≡ i + 2 = omega arith in
-        going-end-tag l s o (start .begin) (start .name) i (i + 2) (g, at-tag .here) (of-end (at-tag .tagged) h refl) (subst (At l s (closing v true o)) two at-close) shape
+        going-end-tag l s o (start .begin) (start .name) i (i + 2) (g, at-tag .here) (of-end (at-tag .tagged) h refl)
+        (subst (At l s (closing v true o)) two at-close) shape
 
     child-place : (i : ℕ) (at-tag : AtTag v o i) → has (is 47) s (i + 1) ≡ false → Place l s (inside (at-tag .bracketed) v o) i
     child-place i at-tag h = record {
@@ -92,17 +101,21 @@ module _ (l : Limits) (s : List ℕ) where
       no-slash = λ t. h;
     }
 
-    going-content : (fuel b i : ℕ) → length s ≤ fuel + i → Safe l s b i → At l s (ground (inside b v o)) i → Outcome l s (λ c. At l s (after o) (c .end)) (contentAt classOf s l fuel (elementAt classOf s l d) start i)
+    going-content : (fuel b i : ℕ) → length s ≤ fuel + i → Safe l s b i → At l s (ground (inside b v o)) i
+        → Outcome l s (λ c. At l s (after o) (c .end)) (contentAt classOf s l fuel (elementAt classOf s l d) start i)
     unfolding contentAt
     going-content zero b i enough safe here = stuck-here l s here refl (λ within. absurd (omega arith))
     going-content (suc fuel) b i enough safe here =
         outcome-then l s _ _ _ (freeAt classOf s (length s) i) (going-free v o (length s) b i (omega arith) safe here) (λ stop q at-tag.
         cond-cases (Outcome l s (λ c. At l s (after o) (c .end))) (has (is 47) s (stop + 1))
-        (λ h. outcome-then l s _ _ _ (endTagAt classOf s l (start .begin) (start .name) (stop + 2)) (going-closed stop at-tag h) (λ e r at-e. at-e))
+        (λ h. outcome-then l s _ _ _ (endTagAt classOf s l (start .begin) (start .name) (stop + 2)) (going-closed stop at-tag h)
+        (λ e r at-e. at-e))
         (λ h.
-        outcome-then l s _ _ _ (elementAt classOf s l d stop) (child (inside (at-tag .bracketed) v o) stop deep-enough (child-place stop at-tag h)) (λ e r at-e.
+        outcome-then l s _ _ _ (elementAt classOf s l d stop)
+        (child (inside (at-tag .bracketed) v o) stop deep-enough (child-place stop at-tag h)) (λ e r at-e.
         outcome-then l s _ _ _ (contentAt classOf s l fuel (elementAt classOf s l d) start (e .tag .end))
-        (going-content fuel 0 (e .tag .end) (omega (arith, free-whole classOf s i stop q .0, element-on classOf s l d stop e r .0)) tt at-e) (λ c t at-c. at-c))))
+        (going-content fuel 0 (e .tag .end) (omega (arith, free-whole classOf s i stop q .0, element-on classOf s l d stop e r .0)) tt at-e)
+        (λ c t at-c. at-c))))
 
   -- ---- elements
 
@@ -112,38 +125,49 @@ module _ (l : Limits) (s : List ℕ) where
   depth-names behind = refl
   depth-names (inside b v o) = refl
 
-  going-rest : (d : ℕ) → Child (elementAt classOf s l d) d → (g : Ground) (i : ℕ) → suc d + depth g ≡ l .levels → (st : Start) → startAt classOf s l i ≡ whole st → Started l s g i st → Outcome l s (λ e. At l s (after (names g)) (e .tag .end)) (restAt classOf s l (elementAt classOf s l d) st)
+  going-rest : (d : ℕ) → Child (elementAt classOf s l d) d → (g : Ground) (i : ℕ) → suc d + depth g ≡ l .levels → (st : Start)
+      → startAt classOf s l i ≡ whole st → Started l s g i st
+      → Outcome l s (λ e. At l s (after (names g)) (e .tag .end)) (restAt classOf s l (elementAt classOf s l d) st)
   unfolding restAt
   going-rest d child g i deep-enough st q started = go (st .empty) refl
     where
       filled : Content → Element
-      filled c = record { tag = record { begin = st .begin; name = st .name; from = st .from; to = c .to; end = c .end }; inside = c .inside }
+      filled c =
+          record { tag = record { begin = st .begin; name = st .name; from = st .from; to = c .to; end = c .end }; inside = c .inside }
 
       starts : Starts classOf s l i st
       starts = start-starts classOf s l i st q
 
       within : st .empty ≡ false → At l s (ground (inside 0 (part s (st .begin) (st .name .end)) (names g))) (st .from)
-      within h = subst (λ (b : ℕ). At l s (ground (inside 0 (part s b (st .name .end)) (names g))) (st .from)) (sym (starts .begins)) (started .filled h)
+      within h =
+          subst (λ (b : ℕ). At l s (ground (inside 0 (part s b (st .name .end)) (names g))) (st .from)) (sym (starts .begins))
+          (started .filled h)
 
-      go : (t : Bool) → st .empty ≡ t → Outcome l s (λ e. At l s (after (names g)) (e .tag .end)) (cond t (whole (record { tag = record { begin = st .begin; name = st .name; from = 0; to = 0; end = st .from }; inside = none })) (contentAt classOf s l (length s) (elementAt classOf s l d) st (st .from) >>= (λ c. whole (filled c))))
+      go : (t : Bool) → st .empty ≡ t
+          → Outcome l s (λ e. At l s (after (names g)) (e .tag .end)) (cond t (whole (record { tag = record { begin = st .begin; name = st .name; from = 0; to = 0; end = st .from }; inside = none })) (contentAt classOf s l (length s) (elementAt classOf s l d) st (st .from) >>= (λ c. whole (filled c))))
       go true h = started .emptied h
       go false h =
           outcome-then l s _ _ _ (contentAt classOf s l (length s) (elementAt classOf s l d) st (st .from))
-          (going-content d child st (names g) (omega (arith, depth-names g)) (name-shape classOf s (st .begin) (l .part) (st .name) (starts .named)) (length s) 0 (st .from) (omega arith) tt (within h)) (λ c r at-c. at-c)
+          (going-content d child st (names g) (omega (arith, depth-names g))
+          (name-shape classOf s (st .begin) (l .part) (st .name) (starts .named)) (length s) 0 (st .from) (omega arith) tt (within h))
+          (λ c r at-c. at-c)
 
   going-element : (d : ℕ) → Child (elementAt classOf s l d) d
   unfolding elementAt
   going-element zero g i deep-enough place = going-deep l s g i place (λ e. At l s (after (names g)) (e .tag .end)) (omega arith)
   going-element (suc d) g i deep-enough place =
-      outcome-then l s _ _ _ (startAt classOf s l i) (going-start l s g i place (lt-leb (l .levels) (depth g) (omega arith))) (λ st q started.
+      outcome-then l s _ _ _ (startAt classOf s l i) (going-start l s g i place (lt-leb (l .levels) (depth g) (omega arith)))
+      (λ st q started.
       going-rest d (going-element d) g i deep-enough st q started)
 
   -- ---- the root, and what stands around it
 
-  root-place : (g : Ground) (i : ℕ) → Around l s g i → isBehind g ≡ false → (now : Ground) × (depth now ≡ 0) × (names now ≡ []) × Place l s now i
+  root-place : (g : Ground) (i : ℕ) → Around l s g i → isBehind g ≡ false
+      → (now : Ground) × (depth now ≡ 0) × (names now ≡ []) × Place l s now i
   root-place g i around front = go (around .now) (around .along .outer) (around .along .side ∙ front) (around .here)
     where
-      place : (now : Ground) → At l s (ground now) i → isBehind now ≡ false → slashed l s now (i + 1) ≡ false → (i < length s → has (is 60) s i ≡ false → betweenTags now (byteAt s i) ≡ dead) → Place l s now i
+      place : (now : Ground) → At l s (ground now) i → isBehind now ≡ false → slashed l s now (i + 1) ≡ false
+          → (i < length s → has (is 60) s i ≡ false → betweenTags now (byteAt s i) ≡ dead) → Place l s now i
       place now here side slash dying = record {
         here = here;
         front = side;
@@ -156,7 +180,8 @@ module _ (l : Limits) (s : List ℕ) where
       blank : i < length s → isSpace classOf (byteAt s i) ≡ false
       blank inner = fails-byte (isSpace classOf) s i inner (around .solid)
 
-      go : (now : Ground) → Outer l s now → isBehind now ≡ false → At l s (ground now) i → (now : Ground) × (depth now ≡ 0) × (names now ≡ []) × Place l s now i
+      go : (now : Ground) → Outer l s now → isBehind now ≡ false → At l s (ground now) i
+          → (now : Ground) × (depth now ≡ 0) × (names now ≡ []) × Place l s now i
       go first outer side here = (first, refl, refl, place first here side refl (λ inner t. rw (blank inner)))
       go before outer side here = (before, refl, refl, place before here side refl (λ inner t. rw (blank inner)))
       go behind outer side here = absurd (true≢false side)
@@ -181,24 +206,40 @@ module _ (l : Limits) (s : List ℕ) where
 
       at-opened : has (is 60) s i ≡ true → At l s (opened behind) (i + 1)
       at-opened h =
-          at-has l s (is 60) i here h (rw (h, no-bang h, and-right (has (is 60) s i) (has (is 63) s (i + 1)) (around .no-question) h, and-false (leb (l .levels) 0))) (rw (has-byte (is 60) s i h))
+          at-has l s (is 60) i here h
+          (rw (h, no-bang h, and-right (has (is 60) s i) (has (is 63) s (i + 1)) (around .no-question) h, and-false (leb (l .levels) 0)))
+          (rw (has-byte (is 60) s i h))
 
-      last : has (is 60) s i ≡ false → (t : Bool) → ltb i (length s) ≡ t → Outcome l s (λ e. At l s (ground behind) (length s)) (cond t (refused 9 i) (whole i))
-      last h true e = (ground behind, here, dies (ltb-true i (length s) e) (rw (fails-byte (is 60) s i (ltb-true i (length s) e) h, fails-byte (isSpace classOf) s i (ltb-true i (length s) e) (around .solid))))
-      last h false e = let same : i ≡ length s = omega (arith, ltb-false i (length s) e, at-within l s i (ground behind) here) in subst (At l s (ground behind)) same here
+      last : has (is 60) s i ≡ false → (t : Bool) → ltb i (length s) ≡ t
+          → Outcome l s (λ e. At l s (ground behind) (length s)) (cond t (refused 9 i) (whole i))
+      last h true e = (
+        ground behind,
+        here,
+        dies (ltb-true i (length s) e)
+            (rw (fails-byte (is 60) s i (ltb-true i (length s) e) h, fails-byte (isSpace classOf) s i (ltb-true i (length s) e) (around .solid))),
+      )
+      last h false e =
+          let same : i ≡ length s = omega (arith, ltb-false i (length s) e, at-within l s i (ground behind) here) in
+          subst (At l s (ground behind)) same here
 
-      tag : (t : Bool) → has (is 60) s i ≡ t → Outcome l s (λ e. At l s (ground behind) (length s)) (cond t (refused 9 (i + 1)) (cond (ltb i (length s)) (refused 9 i) (whole i)))
+      tag : (t : Bool) → has (is 60) s i ≡ t
+          → Outcome l s (λ e. At l s (ground behind) (length s)) (cond t (refused 9 (i + 1)) (cond (ltb i (length s)) (refused 9 i) (whole i)))
       tag true h = stuck-here l s (at-opened h) refl (λ inner. rw (fails-byte (is 33) s (i + 1) inner (no-bang h)))
       tag false h = last h (ltb i (length s)) refl
 
-  going-root : (g : Ground) → Outer l s g → isBehind g ≡ false → (isFirst g ≡ true → declares classOf s ≡ false) → (i : ℕ) → At l s (ground g) i → Outcome l s (λ root. At l s (ground behind) (length s)) (rootAt classOf s l i)
+  going-root : (g : Ground) → Outer l s g → isBehind g ≡ false → (isFirst g ≡ true → declares classOf s ≡ false) → (i : ℕ)
+      → At l s (ground g) i → Outcome l s (λ root. At l s (ground behind) (length s)) (rootAt classOf s l i)
   unfolding rootAt
   going-root g outer front plain i here =
-      outcome-then l s _ _ _ (aroundAt classOf (suc (length s)) s i) (going-around l s (suc (length s)) g outer plain i (omega arith) here) (λ begin q around.
+      outcome-then l s _ _ _ (aroundAt classOf (suc (length s)) s i) (going-around l s (suc (length s)) g outer plain i (omega arith) here)
+      (λ begin q around.
       let there = root-place g begin around front in
-      outcome-then l s _ _ _ (elementAt classOf s l (l .levels) begin) (going-element (l .levels) (there .0) begin (omega (arith, there .1)) (there .3)) (λ root r at-end.
-      let out : At l s (ground behind) (root .tag .end) = subst (λ (o : List (List ℕ)). At l s (after o) (root .tag .end)) (there .2) at-end in
-      outcome-then l s _ _ _ (aroundAt classOf (suc (length s)) s (root .tag .end)) (going-around l s (suc (length s)) behind tt (λ e. absurd (true≢false (sym e))) (root .tag .end) (omega arith) out) (λ last t around′.
+      outcome-then l s _ _ _ (elementAt classOf s l (l .levels) begin)
+      (going-element (l .levels) (there .0) begin (omega (arith, there .1)) (there .3)) (λ root r at-end.
+      let out : At l s (ground behind) (root .tag .end) =
+      subst (λ (o : List (List ℕ)). At l s (after o) (root .tag .end)) (there .2) at-end in
+      outcome-then l s _ _ _ (aroundAt classOf (suc (length s)) s (root .tag .end))
+      (going-around l s (suc (length s)) behind tt (λ e. absurd (true≢false (sym e))) (root .tag .end) (omega arith) out) (λ last t around′.
       outcome-then l s _ _ _ (endAt s last) (going-end last around′) (λ e u at-last. at-last))))
 
   -- A message of no more bytes than the limit allows: the machine goes to its end, or stops where it is refused.
@@ -212,5 +253,6 @@ module _ (l : Limits) (s : List ℕ) where
       declaring : Outcome l s (λ i. (g : Ground) × Outer l s g × (isBehind g ≡ false) × (isFirst g ≡ true → declares classOf s ≡ false) × At l s (ground g) i) (declaredOf classOf s)
       declaring =
           cond-cases (Outcome l s (λ i. (g : Ground) × Outer l s g × (isBehind g ≡ false) × (isFirst g ≡ true → declares classOf s ≡ false) × At l s (ground g) i)) (declares classOf s)
-          (λ h. outcome-as l s _ _ (declarationAt classOf s 5) (going-declaration l s refl h) (λ e q at-e. (before, tt, refl, (λ f. absurd (true≢false (sym f))), at-e)))
+          (λ h. outcome-as l s _ _ (declarationAt classOf s 5) (going-declaration l s refl h)
+          (λ e q at-e. (before, tt, refl, (λ f. absurd (true≢false (sym f))), at-e)))
           (λ h. (first, tt, refl, (λ f. h), refl))

@@ -35,25 +35,31 @@ all-more (y ∷ w) x all h = (all .0, all-more w x (all .1) h)
 
 -- a run of them
 all-named : (s : List ℕ) (b : ℕ) → AllName (part s b (ends (isName classOf) s b))
-all-named s b = run-keeps (isName classOf) s (λ (i : ℕ). (b ≤ i) × AllName (part s b i)) more b (omega arith, subst AllName (sym (part-none s b b (omega arith))) tt) .1
+all-named s b =
+    run-keeps (isName classOf) s (λ (i : ℕ). (b ≤ i) × AllName (part s b i)) more b
+    (omega arith, subst AllName (sym (part-none s b b (omega arith))) tt) .1
   where
     more : (i : ℕ) → has (isName classOf) s i ≡ true → (b ≤ i) × AllName (part s b i) → (b ≤ i + 1) × AllName (part s b (i + 1))
     more i h p = (
       omega (arith, p .0),
-      subst AllName (sym (part-more s b i (p .0) (has-lt (isName classOf) s i h))) (all-more (part s b i) (byteAt s i) (p .1) (has-byte (isName classOf) s i h)),
+      subst AllName (sym (part-more s b i (p .0) (has-lt (isName classOf) s i h)))
+          (all-more (part s b i) (byteAt s i) (p .1) (has-byte (isName classOf) s i h)),
     )
 
 -- ---- the machine in an end tag
 
 module _ (l : Limits) (s : List ℕ) (o : List (List ℕ)) where
   -- bytes of a part that has begun
-  going-rest : (w w′ : List ℕ) → AllName w → (i : ℕ) → At l s (closing (w ++ w′) false o) i → Outcome l s (λ e. At l s (closing w′ false o) e) (wordAt w s i)
+  going-rest : (w w′ : List ℕ) → AllName w → (i : ℕ) → At l s (closing (w ++ w′) false o) i
+      → Outcome l s (λ e. At l s (closing w′ false o) e) (wordAt w s i)
   unfolding wordAt
   going-rest [] w′ all i here = here
   going-rest (y ∷ w) w′ all i here =
       outcome-then l s (λ e. At l s (closing (w ++ w′) (is 58 y) o) e × (e ≡ i + 1)) _ (wordAt w s) (one (is y) s i)
-      (outcome-one l s (closing (w ++ w′) (is 58 y) o) (is y) i here refl (λ h. refl) (λ h. rw (has-byte (is y) s i h)) (λ within h. rw (fails-byte (is y) s i within h)))
-      (λ e q h. going-rest w w′ (all .1) e (subst (λ (t : Bool). At l s (closing (w ++ w′) t o) e) (other-than (isName classOf) 58 colon-no-name y (all .0)) (h .0)))
+      (outcome-one l s (closing (w ++ w′) (is 58 y) o) (is y) i here refl (λ h. refl) (λ h. rw (has-byte (is y) s i h))
+      (λ within h. rw (fails-byte (is y) s i within h)))
+      (λ e q h. going-rest w w′ (all .1) e
+      (subst (λ (t : Bool). At l s (closing (w ++ w′) t o) e) (other-than (isName classOf) 58 colon-no-name y (all .0)) (h .0)))
 
   -- a part from its first byte on
   module _ (y : ℕ) (w w′ : List ℕ) (all : AllName (y ∷ w)) (i : ℕ) (here : At l s (close y (w ++ w′) true o) i) where
@@ -61,7 +67,9 @@ module _ (l : Limits) (s : List ℕ) (o : List (List ℕ)) where
     unfolding wordAt
     going-begun h short =
         rw (one-yes (is y) s i h)
-        (going-rest w w′ (all .1) (i + 1) (subst (λ (t : Bool). At l s (closing (w ++ w′) t o) (i + 1)) (other-than (isName classOf) 58 colon-no-name y (all .0)) (at-has l s (is y) i here h (rw (h, short)) (rw (has-byte (is y) s i h)))))
+        (going-rest w w′ (all .1) (i + 1)
+        (subst (λ (t : Bool). At l s (closing (w ++ w′) t o) (i + 1)) (other-than (isName classOf) 58 colon-no-name y (all .0))
+        (at-has l s (is y) i here h (rw (h, short)) (rw (has-byte (is y) s i h)))))
 
     -- the machine is behind the part, which stands there
     abbrev Matched : ℕ → Type 0
@@ -71,12 +79,19 @@ module _ (l : Limits) (s : List ℕ) (o : List (List ℕ)) where
     unfolding endPartAt shortAt
     going-end-part stands = go (has (is y) s i) refl
       where
-        short : has (is y) s i ≡ true → (t : Bool) → long l s i ≡ t → Outcome l s Matched (cond t (refused 14 i) (whole (ends (isName classOf) s i)) >>= (λ e. wordAt (y ∷ w) s i))
-        short h true e =
-            (close y (w ++ w′) true o, here, longs (rw (h, e)) e (closing (w ++ w′) (is 58 y) o) (rw (has-byte (is y) s i h)) (λ spaced m seen o′ q. let z : _≡_ {A = ℕ} 0 1 = cc in absurd (omega arith)) stands)
-        short h false e = outcome-as l s (λ e. At l s (closing w′ false o) e) Matched (wordAt (y ∷ w) s i) (going-begun h e) (λ e q here′. (here′, q))
+        short : has (is y) s i ≡ true → (t : Bool) → long l s i ≡ t
+            → Outcome l s Matched (cond t (refused 14 i) (whole (ends (isName classOf) s i)) >>= (λ e. wordAt (y ∷ w) s i))
+        short h true e = (
+          close y (w ++ w′) true o,
+          here,
+          longs (rw (h, e)) e (closing (w ++ w′) (is 58 y) o) (rw (has-byte (is y) s i h))
+              (λ spaced m seen o′ q. let z : _≡_ {A = ℕ} 0 1 = cc in absurd (omega arith)) stands,
+        )
+        short h false e =
+            outcome-as l s (λ e. At l s (closing w′ false o) e) Matched (wordAt (y ∷ w) s i) (going-begun h e) (λ e q here′. (here′, q))
 
-        go : (t : Bool) → has (is y) s i ≡ t → Outcome l s Matched (one (is y) s i >>= (λ first. shortAt classOf (l .part) s i >>= (λ e. wordAt (y ∷ w) s i)))
+        go : (t : Bool) → has (is y) s i ≡ t
+            → Outcome l s Matched (one (is y) s i >>= (λ first. shortAt classOf (l .part) s i >>= (λ e. wordAt (y ∷ w) s i)))
         go true h = rw (one-yes (is y) s i h) (short h (long l s i) refl)
         go false h = rw (one-no (is y) s i h) (stuck-here l s here refl (λ within. rw (fails-byte (is y) s i within h)))
 
@@ -90,13 +105,16 @@ word-run s (y ∷ w) i e all q =
 
 module _ (l : Limits) (s : List ℕ) (o : List (List ℕ)) where
   -- the part of the start tag's name that begins at q
-  going-part-again : (q : ℕ) → has (isStart classOf) s q ≡ true → (w′ : List ℕ) (i : ℕ) → At l s (closing (part s q (ends (isName classOf) s q) ++ w′) true o) i → Part l s i
+  going-part-again : (q : ℕ) → has (isStart classOf) s q ≡ true → (w′ : List ℕ) (i : ℕ)
+      → At l s (closing (part s q (ends (isName classOf) s q) ++ w′) true o) i → Part l s i
       → Outcome l s (λ e. At l s (closing w′ false o) e × (wordAt (part s q (ends (isName classOf) s q)) s i ≡ whole e)) (endPartAt classOf s l (part s q (ends (isName classOf) s q)) i)
   going-part-again q h w′ i =
       go (part s q (ends (isName classOf) s q))
-      (part-some s q (ends (isName classOf) s q) (start-in-name classOf s q h) (ends-le (isName classOf) s q (omega (arith, has-lt (isStart classOf) s q h)))) (all-named s q)
+      (part-some s q (ends (isName classOf) s q) (start-in-name classOf s q h)
+      (ends-le (isName classOf) s q (omega (arith, has-lt (isStart classOf) s q h)))) (all-named s q)
     where
-      go : (v : List ℕ) → v ≡ byteAt s q ∷ part s (q + 1) (ends (isName classOf) s q) → AllName v → At l s (closing (v ++ w′) true o) i → Part l s i
+      go : (v : List ℕ) → v ≡ byteAt s q ∷ part s (q + 1) (ends (isName classOf) s q) → AllName v → At l s (closing (v ++ w′) true o) i
+          → Part l s i
           → Outcome l s (λ e. At l s (closing w′ false o) e × (wordAt v s i ≡ whole e)) (endPartAt classOf s l v i)
       go [] e all here stands = let z : _≡_ {A = ℕ} 0 1 = cc in absurd (omega arith)
       go (y ∷ w) e all here stands = going-end-part l s o y w w′ all i here stands
@@ -110,24 +128,34 @@ module _ (l : Limits) (s : List ℕ) (o : List (List ℕ)) where
     going-end-name (single starts none local run) =
         rw (eq-eqb (name .local) b local, run)
         (outcome-as l s _ _ (endPartAt classOf s l (part s b (ends (isName classOf) s b)) i)
-        (going-part-again b starts [] i (subst (λ (w : List ℕ). At l s (closing w true o) i) (ap (part s b) run ∙ sym (append-nil (part s b (ends (isName classOf) s b)))) here) stands-first)
+        (going-part-again b starts [] i
+        (subst (λ (w : List ℕ). At l s (closing w true o) i) (ap (part s b) run ∙ sym (append-nil (part s b (ends (isName classOf) s b))))
+        here) stands-first)
         (λ e q h. h .0))
     going-end-name (double starts colon local starts′ run) =
         rw (ne-eqb (name .local) b (λ e. omega (arith, ends-from (isName classOf) s b)), before-colon)
-        (outcome-then l s _ _ _ (endPartAt classOf s l (part s b (ends (isName classOf) s b)) i) (going-part-again b starts (58 ∷ part s (name .local) (name .end)) i (subst (λ (w : List ℕ). At l s (closing w true o) i) parted here) stands-first) (λ e q behind.
+        (outcome-then l s _ _ _ (endPartAt classOf s l (part s b (ends (isName classOf) s b)) i)
+        (going-part-again b starts (58 ∷ part s (name .local) (name .end)) i
+        (subst (λ (w : List ℕ). At l s (closing w true o) i) parted here) stands-first) (λ e q behind.
         outcome-then l s (λ j. At l s (closing (part s (name .local) (name .end)) true o) j × (j ≡ e + 1)) _ _ (one (is 58) s e)
-        (outcome-one l s (closing (part s (name .local) (name .end)) true o) (is 58) e (behind .0) refl (λ h. refl) (λ h. rw (has-byte (is 58) s e h)) (λ within h. rw (fails-byte (is 58) s e within h))) (λ j r at-j.
+        (outcome-one l s (closing (part s (name .local) (name .end)) true o) (is 58) e (behind .0) refl (λ h. refl)
+        (λ h. rw (has-byte (is 58) s e h)) (λ within h. rw (fails-byte (is 58) s e within h))) (λ j r at-j.
         rw run
         (outcome-as l s _ _ (endPartAt classOf s l (part s (name .local) (ends (isName classOf) s (name .local))) j)
-        (going-part-again (name .local) starts′ [] j (subst (λ (w : List ℕ). At l s (closing w true o) j) (ap (part s (name .local)) run ∙ sym (append-nil (part s (name .local) (ends (isName classOf) s (name .local))))) (at-j .0)) (stands-second e j (behind .1) (one-has (is 58) s e j r .0) (at-j .1)))
+        (going-part-again (name .local) starts′ [] j
+        (subst (λ (w : List ℕ). At l s (closing w true o) j)
+        (ap (part s (name .local)) run ∙ sym (append-nil (part s (name .local) (ends (isName classOf) s (name .local))))) (at-j .0))
+        (stands-second e j (behind .1) (one-has (is 58) s e j r .0) (at-j .1)))
         (λ e′ q′ h. h .0)))))
       where
         before-colon : name .local - 1 ≡ ends (isName classOf) s b
         before-colon = omega (arith, local)
 
-        stands-second : (e j : ℕ) → wordAt (part s b (ends (isName classOf) s b)) s i ≡ whole e → has (is 58) s e ≡ true → j ≡ e + 1 → Part l s j
+        stands-second : (e j : ℕ) → wordAt (part s b (ends (isName classOf) s b)) s i ≡ whole e → has (is 58) s e ≡ true → j ≡ e + 1
+            → Part l s j
         stands-second e j q h j-is =
-            let stops : ends (isName classOf) s e ≡ e = ends-stop (isName classOf) s e (has-known 58 s e h (isName classOf) ∙ colon-no-name) in
+            let stops : ends (isName classOf) s e ≡ e =
+            ends-stop (isName classOf) s e (has-known 58 s e h (isName classOf) ∙ colon-no-name) in
             let same : ends (isName classOf) s i ≡ e = word-run s (part s b (ends (isName classOf) s b)) i e (all-named s b) q ∙ stops in
             record { at = tag; marked = marked; stands = second i begins (ap (has (is 58) s) same ∙ h) (j-is ∙ ap (λ (k : ℕ). k + 1) (sym same)) }
 
@@ -135,7 +163,11 @@ module _ (l : Limits) (s : List ℕ) (o : List (List ℕ)) where
         parted =
             let m : ℕ = ends (isName classOf) s b in
             let far : name .local ≤ name .end = omega (arith, run, ends-from (isName classOf) s (name .local)) in
-            let inner : name .end ≤ length s = omega (arith, run, ends-le (isName classOf) s (name .local) (omega (arith, has-lt (isStart classOf) s (name .local) starts′))) in
+            let inner : name .end ≤ length s = omega (
+              arith,
+              run,
+              ends-le (isName classOf) s (name .local) (omega (arith, has-lt (isStart classOf) s (name .local) starts′)),
+            ) in
             part-parted s b m (name .end) (ends-from (isName classOf) s b) (omega arith) inner
             ∙ ap (λ (x : ℕ). part s b m ++ (x ∷ part s (m + 1) (name .end))) (byte-is 58 s m colon)
             ∙ ap (λ (k : ℕ). part s b m ++ (58 ∷ part s k (name .end))) (sym local)
@@ -146,7 +178,9 @@ module _ (l : Limits) (s : List ℕ) (o : List (List ℕ)) where
         outcome-then l s _ _ _ (endNameAt classOf s l b name i) (going-end-name shape) (λ e q behind.
         let p : ℕ = ends (isSpace classOf) s e in
         let at-p : At l s (closing [] false o) p = at-ends l s (isSpace classOf) (λ j h. refl) (λ x h. rw h) e behind in
-        let solid : (p < length s → isSpace classOf (byteAt s p) ≡ false) = (λ within. fails-byte (isSpace classOf) s p within (ends-fails (isSpace classOf) s e)) in
+        let solid : (p < length s → isSpace classOf (byteAt s p) ≡ false) =
+        (λ within. fails-byte (isSpace classOf) s p within (ends-fails (isSpace classOf) s e)) in
         outcome-as l s (λ j. At l s (after o) j × (j ≡ p + 1)) _ (one (is 62) s p)
-        (outcome-one l s (after o) (is 62) p at-p refl (λ h. refl) (λ h. rw (solid (has-lt (is 62) s p h), has-byte (is 62) s p h)) (λ within h. rw (solid within, fails-byte (is 62) s p within h)))
+        (outcome-one l s (after o) (is 62) p at-p refl (λ h. refl) (λ h. rw (solid (has-lt (is 62) s p h), has-byte (is 62) s p h))
+        (λ within h. rw (solid within, fails-byte (is 62) s p within h)))
         (λ j r h. h .0))

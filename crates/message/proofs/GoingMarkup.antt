@@ -31,9 +31,16 @@ module _ (l : Limits) (s : List ℕ) where
 
     at-comment : undeclared ≡ false → At l s (comment g) (i + 2)
     at-comment none =
-        let free : due l s (ground g) i ≡ false = rw (tag, bang, none, has-known 33 s (i + 1) bang (is 63), has-known 33 s (i + 1) bang (isStart classOf) ∙ bang-no-start) (and-false (leb (l .levels) (depth g) && not (isBehind g))) in
+        let free : due l s (ground g) i ≡ false = rw (
+          tag,
+          bang,
+          none,
+          has-known 33 s (i + 1) bang (is 63),
+          has-known 33 s (i + 1) bang (isStart classOf) ∙ bang-no-start,
+        ) (and-false (leb (l .levels) (depth g) && not (isBehind g))) in
         let at-opened : At l s (opened g) (i + 1) = at-has l s (is 60) i here tag free (rw (has-byte (is 60) s i tag)) in
-        let free′ : due l s (opened g) (i + 1) ≡ false = rw (has-known 33 s (i + 1) bang (isStart classOf) ∙ bang-no-start) (and-false (not (isBehind g))) in
+        let free′ : due l s (opened g) (i + 1) ≡ false =
+        rw (has-known 33 s (i + 1) bang (isStart classOf) ∙ bang-no-start) (and-false (not (isBehind g))) in
         subst (At l s (comment g)) (omega arith) (at-has l s (is 33) (i + 1) at-opened bang free′ (rw (has-byte (is 33) s (i + 1) bang)))
 
     pub going-bang : Outcome l s (λ e. At l s (ground (rest g)) e) (bangAt classOf s i)
@@ -43,7 +50,9 @@ module _ (l : Limits) (s : List ℕ) where
         rw (one-yes (is 60) s i tag, one-yes (is 33) s (i + 1) bang, two)
         (cond-cases (Outcome l s (λ e. At l s (ground (rest g)) e)) undeclared
         (λ h. (ground g, here, opens g refl tag (rw (bang, h))))
-        (λ h. outcome-then l s _ _ _ (wordAt hyphens s (i + 2)) (outcome-word l s hyphens [] (note 0 (ground (rest g))) (i + 2) (at-comment h)) (λ e q at-e. going-comment l s (ground (rest g)) (length s) e (omega arith) at-e)))
+        (λ h. outcome-then l s _ _ _ (wordAt hyphens s (i + 2))
+        (outcome-word l s hyphens [] (note 0 (ground (rest g))) (i + 2) (at-comment h))
+        (λ e q at-e. going-comment l s (ground (rest g)) (length s) e (omega arith) at-e)))
 
   -- ---- around the root
 
@@ -61,17 +70,24 @@ module _ (l : Limits) (s : List ℕ) where
 
   -- white space leaves `before` and `behind` as they are
   stays-before : (i : ℕ) → At l s (ground before) i → At l s (ground before) (ends (isSpace classOf) s i)
-  stays-before i here = at-ends l s (isSpace classOf) (λ j h. rw (has-fails (isSpace classOf) (is 60) space-no-tag s j h)) (λ x h. rw (space-no-tag x h, h)) i here
+  stays-before i here =
+      at-ends l s (isSpace classOf) (λ j h. rw (has-fails (isSpace classOf) (is 60) space-no-tag s j h))
+      (λ x h. rw (space-no-tag x h, h)) i here
 
   stays-behind : (i : ℕ) → At l s (ground behind) i → At l s (ground behind) (ends (isSpace classOf) s i)
-  stays-behind i here = at-ends l s (isSpace classOf) (λ j h. rw (has-fails (isSpace classOf) (is 60) space-no-tag s j h)) (λ x h. rw (space-no-tag x h, h)) i here
+  stays-behind i here =
+      at-ends l s (isSpace classOf) (λ j h. rw (has-fails (isSpace classOf) (is 60) space-no-tag s j h))
+      (λ x h. rw (space-no-tag x h, h)) i here
 
-  over-blanks : (g : Ground) → Outer g → (i : ℕ) → At l s (ground g) i → (g′ : Ground) × At l s (ground g′) (ends (isSpace classOf) s i) × Along g g′
+  over-blanks : (g : Ground) → Outer g → (i : ℕ) → At l s (ground g) i
+      → (g′ : Ground) × At l s (ground g′) (ends (isSpace classOf) s i) × Along g g′
   over-blanks first outer i here = go (has (isSpace classOf) s i) refl
     where
       go : (t : Bool) → has (isSpace classOf) s i ≡ t → (g′ : Ground) × At l s (ground g′) (ends (isSpace classOf) s i) × Along first g′
       go true h =
-          let next : At l s (ground before) (i + 1) = at-has l s (isSpace classOf) i here h (rw (has-fails (isSpace classOf) (is 60) space-no-tag s i h)) (rw (space-no-tag (byteAt s i) (has-byte (isSpace classOf) s i h), has-byte (isSpace classOf) s i h)) in
+          let next : At l s (ground before) (i + 1) = at-has l s (isSpace classOf) i here h
+          (rw (has-fails (isSpace classOf) (is 60) space-no-tag s i h))
+          (rw (space-no-tag (byteAt s i) (has-byte (isSpace classOf) s i h), has-byte (isSpace classOf) s i h)) in
           (before, rw (ends-more (isSpace classOf) s i h) (stays-before (i + 1) next), record { outer = tt; side = refl; start = λ e. refl })
       go false h = (first, rw (ends-stop (isSpace classOf) s i h) here, record { outer = tt; side = refl; start = λ e. refl })
   over-blanks before outer i here = (before, stays-before i here, record { outer = tt; side = refl; start = λ e. e })
@@ -87,7 +103,8 @@ module _ (l : Limits) (s : List ℕ) where
   along-then : (g g′ g″ : Ground) → Along g g′ → Along g′ g″ → Along g g″
   along-then g g′ g″ a a′ = record { outer = a′ .outer; side = a′ .side ∙ a .side; start = λ e. a .start (a′ .start e) }
 
-  question-opens : (g : Ground) (i : ℕ) → has (is 63) s (i + 1) ≡ true → (isFirst g ≡ true → declares classOf s ≡ false) → opening l s g i ≡ true
+  question-opens : (g : Ground) (i : ℕ) → has (is 63) s (i + 1) ≡ true → (isFirst g ≡ true → declares classOf s ≡ false)
+      → opening l s g i ≡ true
   question-opens g i h plain =
       or-last (has (is 33) s (i + 1) && (isWhole (wordAt doctype s (i + 2)) || isWhole (wordAt cdata s (i + 2)))) {b = has (is 63) s (i + 1) && not (isFirst g && declares classOf s)}
       (rw h (not-both (isFirst g) plain))
@@ -101,7 +118,8 @@ module _ (l : Limits) (s : List ℕ) where
     pub no-bang : opensAt 33 s e ≡ false
     pub no-question : opensAt 63 s e ≡ false
 
-  pub going-around : (fuel : ℕ) (g : Ground) → Outer g → (isFirst g ≡ true → declares classOf s ≡ false) → (i : ℕ) → length s < fuel + i → At l s (ground g) i → Outcome l s (Around g) (aroundAt classOf fuel s i)
+  pub going-around : (fuel : ℕ) (g : Ground) → Outer g → (isFirst g ≡ true → declares classOf s ≡ false) → (i : ℕ) → length s < fuel + i
+      → At l s (ground g) i → Outcome l s (Around g) (aroundAt classOf fuel s i)
   unfolding aroundAt
   going-around zero g outer plain i enough here = absurd (omega (arith, at-within l s i (ground g) here))
   going-around (suc fuel) g outer plain i enough here =
@@ -111,7 +129,9 @@ module _ (l : Limits) (s : List ℕ) where
       let on : i ≤ stop = ends-from (isSpace classOf) s i in
       cond-cases (Outcome l s (Around g)) (opensAt 33 s stop)
       (λ h.
-      outcome-then l s (λ e. At l s (ground (rest g′)) e) (Around g) _ (bangAt classOf s stop) (going-bang g′ stop (over .1) (both-first (has (is 60) s stop) (has (is 33) s (stop + 1)) h) (both-second (has (is 60) s stop) (has (is 33) s (stop + 1)) h)) (λ e q at-e.
+      outcome-then l s (λ e. At l s (ground (rest g′)) e) (Around g) _ (bangAt classOf s stop)
+      (going-bang g′ stop (over .1) (both-first (has (is 60) s stop) (has (is 33) s (stop + 1)) h)
+      (both-second (has (is 60) s stop) (has (is 33) s (stop + 1)) h)) (λ e q at-e.
       let along : Along g (rest g′) = along-rest g g′ (over .2) in
       let past : stop < e = past-whole (λ x. x) (length s) stop q (past-bang classOf s stop stop (omega arith)) .0 in
       outcome-as l s (Around (rest g′)) (Around g) (aroundAt classOf fuel s e)

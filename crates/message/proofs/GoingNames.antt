@@ -41,8 +41,11 @@ module _ (l : Limits) (s : List ℕ) where
       where
         grown : (j : ℕ) → has (isName classOf) s j ≡ true → (b ≤ j) × In j → (b ≤ j + 1) × In (j + 1)
         grown j h p =
-            let next = at-has l s (isName classOf) j (p .1) h (N .free t (part s b j) j) (N .grows t (part s b j) (byteAt s j) (has-byte (isName classOf) s j h)) in
-            (omega (arith, p .0), subst (λ (w : List ℕ). At l s (N .inPart t w) (j + 1)) (sym (part-more s b j (p .0) (has-lt (isName classOf) s j h))) next)
+            let next = at-has l s (isName classOf) j (p .1) h (N .free t (part s b j) j)
+            (N .grows t (part s b j) (byteAt s j) (has-byte (isName classOf) s j h)) in (
+              omega (arith, p .0),
+              subst (λ (w : List ℕ). At l s (N .inPart t w) (j + 1)) (sym (part-more s b j (p .0) (has-lt (isName classOf) s j h))) next,
+            )
 
     -- before the first byte of a part, which begins at q, in a name that begins at b
     pub record Before (q : ℕ) : Type 0 where
@@ -70,16 +73,20 @@ module _ (l : Limits) (s : List ℕ) where
         run h short =
             let named : has (isName classOf) s q ≡ true = start-name classOf s q h in
             record {
-              here = rw (ends-more (isName classOf) s q named) (run-on (q + 1) (omega (arith, at-q .from)) (at-has l s (isStart classOf) q (at-q .here) h (at-q .looks h ∙ short) (at-q .starts h)));
+              here = rw (ends-more (isName classOf) s q named)
+                  (run-on (q + 1) (omega (arith, at-q .from))
+                  (at-has l s (isStart classOf) q (at-q .here) h (at-q .looks h ∙ short) (at-q .starts h)));
               run = refl;
               on = start-in-name classOf s q h;
             }
 
-        short : has (isStart classOf) s q ≡ true → (u : Bool) → long l s q ≡ u → Outcome l s (Behind q) (cond u (refused 14 q) (whole (ends (isName classOf) s q)))
+        short : has (isStart classOf) s q ≡ true → (u : Bool) → long l s q ≡ u
+            → Outcome l s (Behind q) (cond u (refused 14 q) (whole (ends (isName classOf) s q)))
         short h true e = (at-q .state, at-q .here, longs (at-q .looks h ∙ e) e _ (at-q .starts h) (at-q .roomy) (at-q .stands))
         short h false e = run h e
 
-        go : (u : Bool) → has (isStart classOf) s q ≡ u → Outcome l s (Behind q) (one (isStart classOf) s q >>= (λ next. shortAt classOf (l .part) s q))
+        go : (u : Bool) → has (isStart classOf) s q ≡ u
+            → Outcome l s (Behind q) (one (isStart classOf) s q >>= (λ next. shortAt classOf (l .part) s q))
         go true h = rw (one-yes (isStart classOf) s q h) (short h (long l s q) refl)
         go false h = rw (one-no (isStart classOf) s q h) (stuck-here l s (at-q .here) (at-q .more) (λ inside. at-q .fails inside h))
 
@@ -123,12 +130,14 @@ module _ (l : Limits) (s : List ℕ) where
             record {
               state = N .behindColon (part s b (e + 1));
               here = subst (λ (w : List ℕ). At l s (N .behindColon w) (e + 1)) (colon-part e from h)
-                  (at-has l s (is 58) e (behind .here) h (N .free false (part s b e) e) (ap (step (N .inPart false (part s b e))) colon ∙ N .splits (part s b e)));
+                  (at-has l s (is 58) e (behind .here) h (N .free false (part s b e) e)
+                  (ap (step (N .inPart false (part s b e))) colon ∙ N .splits (part s b e)));
               more = N .colon-more (part s b (e + 1));
               from = omega arith;
               starts = λ st. N .begins (part s b (e + 1)) (byteAt s (e + 1))
                   ∙ rw (has-byte (isStart classOf) s (e + 1) st, part-more s b (e + 1) (omega arith) (has-lt (isStart classOf) s (e + 1) st));
-              fails = λ inside no-start. N .begins (part s b (e + 1)) (byteAt s (e + 1)) ∙ rw (fails-byte (isStart classOf) s (e + 1) inside no-start);
+              fails = λ inside no-start. N .begins (part s b (e + 1)) (byteAt s (e + 1))
+                  ∙ rw (fails-byte (isStart classOf) s (e + 1) inside no-start);
               looks = λ st. N .looks (part s b (e + 1)) (e + 1) ∙ rw st;
               roomy = N .colon-roomy (part s b (e + 1));
               stands = record {
@@ -138,7 +147,9 @@ module _ (l : Limits) (s : List ℕ) where
               };
             }
 
-        divided : (e : ℕ) → Behind N false b b e → has (is 58) s e ≡ true → Outcome l s (NameRead b) (partAt classOf (l .part) s (e + 1) >>= (λ last. whole (record { local = e + 1; end = last })))
+        divided : (e : ℕ) → Behind N false b b e → has (is 58) s e ≡ true
+            → Outcome l s (NameRead b) (partAt classOf (l .part) s (e + 1) >>= (λ last. whole (record { local = e + 1; end = last })))
         divided e behind h =
-            outcome-then l s (Behind N true b (e + 1)) (NameRead b) _ (partAt classOf (l .part) s (e + 1)) (going-part N true b (e + 1) (before-second e behind h))
+            outcome-then l s (Behind N true b (e + 1)) (NameRead b) _ (partAt classOf (l .part) s (e + 1))
+            (going-part N true b (e + 1) (before-second e behind h))
             (λ last q behind′. record { inSecond = true; here = behind′ .here; ended = stopped last behind′; undivided = and-false (has (is 58) s last) })

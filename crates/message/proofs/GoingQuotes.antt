@@ -25,9 +25,11 @@ module _ (l : Limits) (s : List ℕ) where
     abbrev awaiting : ℕ → Next
     awaiting = stepBlanks (exact b) solid ts k
 
-    going-blanks : (i : ℕ) → Acts l s awaiting i → Outcome l s (λ e. At l s (expecting ts k) e × (e ≡ ends (isSpace classOf) s i + 1)) (one (is b) s (ends (isSpace classOf) s i))
+    going-blanks : (i : ℕ) → Acts l s awaiting i
+        → Outcome l s (λ e. At l s (expecting ts k) e × (e ≡ ends (isSpace classOf) s i + 1)) (one (is b) s (ends (isSpace classOf) s i))
     going-blanks i acts =
-        acts-one l s there (expecting ts k) (is b) (λ h. rw (solid-there (has-lt (is b) s p h), has-byte (is b) s p h)) (λ within h. rw (solid-there within, fails-byte (is b) s p within h))
+        acts-one l s there (expecting ts k) (is b) (λ h. rw (solid-there (has-lt (is b) s p h), has-byte (is b) s p h))
+        (λ within h. rw (solid-there within, fails-byte (is b) s p within h))
       where
         p : ℕ
         p = ends (isSpace classOf) s i
@@ -38,10 +40,13 @@ module _ (l : Limits) (s : List ℕ) where
         solid-there : p < length s → isSpace classOf (byteAt s p) ≡ false
         solid-there within = fails-byte (isSpace classOf) s p within (ends-fails (isSpace classOf) s i)
 
-  pub going-blanks-word : (b : ℕ) (solid : isSpace classOf b ≡ false) (w : List ℕ) (ts : List Test) (k : State) (i : ℕ) → At l s (blanks (exact b) solid (exactly w ++ ts) k) i → Outcome l s (λ e. At l s (expecting ts k) e) (wordAt (b ∷ w) s (ends (isSpace classOf) s i))
+  pub going-blanks-word : (b : ℕ) (solid : isSpace classOf b ≡ false) (w : List ℕ) (ts : List Test) (k : State) (i : ℕ)
+      → At l s (blanks (exact b) solid (exactly w ++ ts) k) i
+      → Outcome l s (λ e. At l s (expecting ts k) e) (wordAt (b ∷ w) s (ends (isSpace classOf) s i))
   unfolding wordAt
   going-blanks-word b solid w ts k i here =
-      outcome-then l s _ _ _ (one (is b) s (ends (isSpace classOf) s i)) (going-blanks b solid (exactly w ++ ts) k i (acts-at l s _ i here refl refl)) (λ e q h. outcome-word l s w ts k e (h .0))
+      outcome-then l s _ _ _ (one (is b) s (ends (isSpace classOf) s i))
+      (going-blanks b solid (exactly w ++ ts) k i (acts-at l s _ i here refl refl)) (λ e q h. outcome-word l s w ts k e (h .0))
 
   -- ---- a quotation mark
 
@@ -73,7 +78,8 @@ module _ (l : Limits) (s : List ℕ) where
         outcome-as l s (λ e. At l s (Q .next (byteAt s mark)) e × (e ≡ mark + 1)) _ (one isQuote s mark)
         (outcome-one l s (Q .next (byteAt s mark)) isQuote mark (here .0) (Q .more) (λ h. Q .free mark)
         (λ h. Q .does (byteAt s mark) ∙ rw (quote-no-space (byteAt s mark) (has-byte isQuote s mark h), has-byte isQuote s mark h))
-        (λ within h. Q .does (byteAt s mark) ∙ rw (fails-byte (isSpace classOf) s mark within (here .1), fails-byte isQuote s mark within h)))
+        (λ within h. Q .does (byteAt s mark)
+        ∙ rw (fails-byte (isSpace classOf) s mark within (here .1), fails-byte isQuote s mark within h)))
         (λ e r h. behind mark e (one-has isQuote s mark e r .0) h))
       where
         behind : (mark e : ℕ) → has isQuote s mark ≡ true → At l s (Q .next (byteAt s mark)) e × (e ≡ mark + 1) → Opened e

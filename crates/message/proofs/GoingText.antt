@@ -24,7 +24,8 @@ use Rattle.message.proofs.GoingCharacters.{Behind, going-long, going-sp
 module _ (l : Limits) (s : List ℕ) where
   -- ---- what is no plain text, up to the place behind it
 
-  going-beyond-in : (k : State) (i : ℕ) → Acts l s (λ x. cond (isText classOf x) (goes k) (special k x)) i → Outcome l s (λ e. At l s k e) (beyondPlainInAt classOf s i)
+  going-beyond-in : (k : State) (i : ℕ) → Acts l s (λ x. cond (isText classOf x) (goes k) (special k x)) i
+      → Outcome l s (λ e. At l s k e) (beyondPlainInAt classOf s i)
   unfolding beyondPlainInAt
   going-beyond-in k i acts =
       cond-cases (Outcome l s (λ e. At l s k e)) (has (isText classOf) s i)
@@ -38,10 +39,12 @@ module _ (l : Limits) (s : List ℕ) where
   abbrev Quoted : ℕ → State → ℕ → Type 0
   Quoted q st e = At l s st e × (has (is q) s e ≡ true)
 
-  value-stays : (q : ℕ) → isQuote q ≡ true → (n : List ℕ) (seen o : List (List ℕ)) (x : ℕ) → isPlain classOf x ≡ true → step (value q n seen o) x ≡ goes (value q n seen o)
+  value-stays : (q : ℕ) → isQuote q ≡ true → (n : List ℕ) (seen o : List (List ℕ)) (x : ℕ) → isPlain classOf x ≡ true
+      → step (value q n seen o) x ≡ goes (value q n seen o)
   value-stays q quotes n seen o x h = rw (other-than (isPlain classOf) q (quote-no-plain q quotes) x h, plain-text x h)
 
-  pub going-value : (q : ℕ) → isQuote q ≡ true → (n : List ℕ) (seen o : List (List ℕ)) (fuel i : ℕ) → length s ≤ fuel + i → At l s (value q n seen o) i → Outcome l s (λ e. At l s (value q n seen o) e × (has (is q) s e ≡ true)) (valueAt classOf fuel q s i)
+  pub going-value : (q : ℕ) → isQuote q ≡ true → (n : List ℕ) (seen o : List (List ℕ)) (fuel i : ℕ) → length s ≤ fuel + i
+      → At l s (value q n seen o) i → Outcome l s (λ e. At l s (value q n seen o) e × (has (is q) s e ≡ true)) (valueAt classOf fuel q s i)
   unfolding valueAt
   going-value q quotes n seen o zero i enough here = (value q n seen o, here, cut (omega arith) refl)
   going-value q quotes n seen o (suc fuel) i enough here =
@@ -82,7 +85,8 @@ module _ (l : Limits) (s : List ℕ) where
     text-open (suc (suc b)) i safe below = rw (fails-byte (is 62) s i below (safe .1)) (and-false (eqb (suc (suc b)) 2))
 
     -- neither `<` nor `]`
-    text-step : (b i : ℕ) → Safe b i → has (is 60) s i ≡ false → has (is 93) s i ≡ false → i < length s → step (within b) (byteAt s i) ≡ cond (isText classOf (byteAt s i)) (goes (within 0)) (special (within 0) (byteAt s i))
+    text-step : (b i : ℕ) → Safe b i → has (is 60) s i ≡ false → has (is 93) s i ≡ false → i < length s
+        → step (within b) (byteAt s i) ≡ cond (isText classOf (byteAt s i)) (goes (within 0)) (special (within 0) (byteAt s i))
     text-step b i safe h h′ below = rw (fails-byte (is 60) s i below h, fails-byte (is 93) s i below h′, text-open b i safe below)
 
     -- the text goes on at the place
@@ -94,7 +98,8 @@ module _ (l : Limits) (s : List ℕ) where
     text-plain b i safe here t =
         let not-60 = has-other (isPlain classOf) 60 tag-no-plain s i t in
         let steps = text-step b i safe not-60 (has-other (isPlain classOf) 93 bracket-no-plain s i t) (has-lt (isPlain classOf) s i t) in
-        at-has l s (isPlain classOf) i here t (text-free b i not-60) (steps ∙ rw (plain-text (byteAt s i) (has-byte (isPlain classOf) s i t)))
+        at-has l s (isPlain classOf) i here t (text-free b i not-60)
+        (steps ∙ rw (plain-text (byteAt s i) (has-byte (isPlain classOf) s i t)))
 
     -- a run of plain bytes
     text-run : (i : ℕ) → Text i → Text (ends (isPlain classOf) s i)
@@ -104,7 +109,8 @@ module _ (l : Limits) (s : List ℕ) where
         free j h = text-free 0 j (has-other (isPlain classOf) 60 tag-no-plain s j h)
 
         stays : (x : ℕ) → isPlain classOf x ≡ true → step (within 0) x ≡ goes (within 0)
-        stays x h = rw (other-than (isPlain classOf) 60 tag-no-plain x h, other-than (isPlain classOf) 93 bracket-no-plain x h, plain-text x h)
+        stays x h =
+            rw (other-than (isPlain classOf) 60 tag-no-plain x h, other-than (isPlain classOf) 93 bracket-no-plain x h, plain-text x h)
 
         go : (t : Bool) → has (isPlain classOf) s i ≡ t → Text (ends (isPlain classOf) s i)
         go true t =
@@ -117,10 +123,12 @@ module _ (l : Limits) (s : List ℕ) where
     text-bracket b i here h =
         let x-is : byteAt s i ≡ 93 = byte-is 93 s i h in
         let not-60 : is 60 (byteAt s i) ≡ false = ap (is 60) x-is in
-        at-has l s (is 93) i here h (text-free b i (has-in (is 60) s i (has-lt (is 93) s i h) ∙ not-60)) (rw (not-60, has-byte (is 93) s i h))
+        at-has l s (is 93) i here h (text-free b i (has-in (is 60) s i (has-lt (is 93) s i h) ∙ not-60))
+        (rw (not-60, has-byte (is 93) s i h))
 
     -- behind it, where `]>` does not follow
-    bracket-safe : (b i : ℕ) → Safe b i → has (is 93) s i ≡ true → (has (is 93) s (i + 1) && has (is 62) s (i + 2)) ≡ false → Safe (brackets b) (i + 1)
+    bracket-safe : (b i : ℕ) → Safe b i → has (is 93) s i ≡ true → (has (is 93) s (i + 1) && has (is 62) s (i + 2)) ≡ false
+        → Safe (brackets b) (i + 1)
     bracket-safe b i safe h none = go b safe
       where
         none′ : (has (is 93) s (i + 1) && has (is 62) s (i + 1 + 1)) ≡ false
@@ -132,14 +140,18 @@ module _ (l : Limits) (s : List ℕ) where
         go (suc (suc b)) safe = (none′, rw h at (safe .0))
 
     -- `]]` is behind, and the `>` that ends it is dead
-    text-dead : (b i : ℕ) → At l s (within b) i → has (is 93) s i ≡ true → (has (is 93) s (i + 1) && has (is 62) s (i + 2)) ≡ true → Stuck l s 9 (i + 2)
+    text-dead : (b i : ℕ) → At l s (within b) i → has (is 93) s i ≡ true → (has (is 93) s (i + 1) && has (is 62) s (i + 2)) ≡ true
+        → Stuck l s 9 (i + 2)
     unfolding classOf
     text-dead b i here h t =
         let h1 : has (is 93) s (i + 1) ≡ true = both-first (has (is 93) s (i + 1)) (has (is 62) s (i + 2)) t in
         let h2 : has (is 62) s (i + 2) ≡ true = both-second (has (is 93) s (i + 1)) (has (is 62) s (i + 2)) t in
         let x-is : byteAt s (i + 2) ≡ 62 = byte-is 62 s (i + 2) h2 in
-        let there = text-bracket (brackets b) (i + 1) (text-bracket b i here h) h1 in
-        (within (brackets (brackets b)), subst (At l s (within (brackets (brackets b)))) (omega arith) there, dies (has-lt (is 62) s (i + 2) h2) (rw x-is (dead-at b)))
+        let there = text-bracket (brackets b) (i + 1) (text-bracket b i here h) h1 in (
+          within (brackets (brackets b)),
+          subst (At l s (within (brackets (brackets b)))) (omega arith) there,
+          dies (has-lt (is 62) s (i + 2) h2) (rw x-is (dead-at b)),
+        )
       where
         dead-at : (b : ℕ) → step (within (brackets (brackets b))) 62 ≡ dead
         dead-at zero = refl
@@ -152,9 +164,11 @@ module _ (l : Limits) (s : List ℕ) where
         cond-cases (Outcome l s Text) (has (is 93) s (i + 1) && has (is 62) s (i + 2)) (λ u. text-dead (here .0) i (here .2) t u)
         (λ u. (brackets (here .0), bracket-safe (here .0) i (here .1) t u, text-bracket (here .0) i (here .2) t))) (λ t.
         outcome-as l s (λ e. At l s (within 0) e) Text (beyondPlainInAt classOf s i)
-        (going-beyond-in (within 0) i (acting l s (here .2) refl (text-free (here .0) i h) (text-step (here .0) i (here .1) h t))) (λ e q g. (0, tt, g)))
+        (going-beyond-in (within 0) i (acting l s (here .2) refl (text-free (here .0) i h) (text-step (here .0) i (here .1) h t)))
+        (λ e q g. (0, tt, g)))
 
-  pub going-text : (v : List ℕ) (o : List (List ℕ)) (fuel b i : ℕ) → length s ≤ fuel + i → Safe b i → At l s (ground (inside b v o)) i → Outcome l s (λ e. (b′ : ℕ) × At l s (ground (inside b′ v o)) e × (has (is 60) s e ≡ true)) (textAt classOf fuel s i)
+  pub going-text : (v : List ℕ) (o : List (List ℕ)) (fuel b i : ℕ) → length s ≤ fuel + i → Safe b i → At l s (ground (inside b v o)) i
+      → Outcome l s (λ e. (b′ : ℕ) × At l s (ground (inside b′ v o)) e × (has (is 60) s e ≡ true)) (textAt classOf fuel s i)
   unfolding textAt
   going-text v o zero b i enough safe here = (ground (inside b v o), here, cut (omega arith) refl)
   going-text v o (suc fuel) b i enough safe here =
@@ -179,7 +193,8 @@ module _ (l : Limits) (s : List ℕ) where
     Noted i = (h : ℕ) × Quiet h i × At l s (note h k) i
 
     -- no `-`
-    note-step : (h i : ℕ) → Quiet h i → has (is 45) s i ≡ false → i < length s → step (note h k) (byteAt s i) ≡ cond (isPlainNote classOf (byteAt s i)) (goes (note 0 k)) (leads (note 0 k) (byteAt s i))
+    note-step : (h i : ℕ) → Quiet h i → has (is 45) s i ≡ false → i < length s
+        → step (note h k) (byteAt s i) ≡ cond (isPlainNote classOf (byteAt s i)) (goes (note 0 k)) (leads (note 0 k) (byteAt s i))
     note-step zero i quiet none below = rw (fails-byte (is 45) s i below none)
     note-step (suc zero) i quiet none below = rw (fails-byte (is 45) s i below none)
     note-step (suc (suc h)) i quiet none below = absurd quiet
@@ -238,5 +253,6 @@ module _ (l : Limits) (s : List ℕ) where
         (note-beyond stop there (ends-fails (isPlainNote classOf) s i) t) (λ e w h.
         note-loop fuel e (omega (arith, beyond-note-on s stop e w)) h))
 
-  pub going-comment : (k : State) (fuel i : ℕ) → length s ≤ fuel + i → At l s (note 0 k) i → Outcome l s (λ e. At l s k e) (commentAt classOf fuel s i)
+  pub going-comment : (k : State) (fuel i : ℕ) → length s ≤ fuel + i → At l s (note 0 k) i
+      → Outcome l s (λ e. At l s k e) (commentAt classOf fuel s i)
   going-comment k fuel i enough here = note-loop k fuel i enough (0, tt, here)

@@ -88,20 +88,24 @@ closes-one (y ∷ v) fresh o [] u end hv hn e =
     absurd (dies-there (close y v fresh o) end 62 u (rw (letter-no 62 refl y (hv .0))) e)
 closes-one (y ∷ v) fresh o (x ∷ n) u end hv hn e = go (is y x) refl (closes-one v (is 58 y) o n u end (hv .1) (hn .1))
   where
-    go : (t : Bool) → is y x ≡ t → (steps (closing v (is 58 y) o) (n ++ (62 ∷ u)) ≡ goes end → steps (after o) u ≡ goes end) → steps (after o) u ≡ goes end
+    go : (t : Bool) → is y x ≡ t → (steps (closing v (is 58 y) o) (n ++ (62 ∷ u)) ≡ goes end → steps (after o) u ≡ goes end)
+        → steps (after o) u ≡ goes end
     go true q more = more (rw (q, steps) at e)
     go false q more = absurd (dies-there (close y v fresh o) end x (n ++ (62 ∷ u)) (rw q) e)
 
-pub open-depth : (g : Ground) → Sane (ground g) → (names : List (List ℕ)) → EachNameLike names → steps (ground g) (endTags names) ≡ goes (ground behind) → depth g ≡ length names
+pub open-depth : (g : Ground) → Sane (ground g) → (names : List (List ℕ)) → EachNameLike names
+    → steps (ground g) (endTags names) ≡ goes (ground behind) → depth g ≡ length names
 unfolding classOf steps
 open-depth g h [] each e = let z : g ≡ behind = cc in ap depth z
 open-depth first h (n ∷ names) each e = absurd (goes-dead (sym e))
 open-depth before h (n ∷ names) each e = absurd (goes-dead (sym e))
 open-depth behind h (n ∷ names) each e = absurd (goes-dead (sym e))
 open-depth (inside b v o) h (n ∷ names) each e =
-    ap suc (go o (h .1) (closes-one v true o n (endTags names) (ground behind) (h .0) (each .0) e) (λ g so. open-depth g so names (each .1)))
+    ap suc (go o (h .1) (closes-one v true o n (endTags names) (ground behind) (h .0) (each .0) e)
+    (λ g so. open-depth g so names (each .1)))
   where
     go : (o : List (List ℕ)) → EachNameLike o → steps (after o) (endTags names) ≡ goes (ground behind)
-        → ((g : Ground) → Sane (ground g) → steps (ground g) (endTags names) ≡ goes (ground behind) → depth g ≡ length names) → length o ≡ length names
+        → ((g : Ground) → Sane (ground g) → steps (ground g) (endTags names) ≡ goes (ground behind) → depth g ≡ length names)
+        → length o ≡ length names
     go [] so ends more = more behind tt ends
     go (v ∷ o) so ends more = more (inside 0 v o) so ends

@@ -30,7 +30,8 @@ module _ {A B : Type 0} (next : A → Reading B) {a : Reading A} where
   stopped h = rw h
 
 -- two characters that end at one place and have one number
-pub same-code : {e c c′ : ℕ} → c ≡ c′ → _≡_ {A = Reading characters.Character} (whole (record { end = e; code = c })) (whole (record { end = e; code = c′ }))
+pub same-code : {e c c′ : ℕ} → c ≡ c′
+    → _≡_ {A = Reading characters.Character} (whole (record { end = e; code = c })) (whole (record { end = e; code = c′ }))
 same-code h = rw h
 
 -- ---- tests
@@ -199,14 +200,16 @@ module _ (test : ℕ → Bool) (s : List ℕ) where
   ends-all zero at = λ h. rw add-zero
   ends-all (suc k) at =
       cond-cases (λ n. n ≡ suc k → ends test s (at + suc k) ≡ ends test s at) (has test s at)
-      (λ t h. ap (ends test s) (omega arith) ∙ ends-all k (at + 1) (omega arith) ∙ sym (ends-more test s at t)) (λ t h. absurd (omega arith))
+      (λ t h. ap (ends test s) (omega arith) ∙ ends-all k (at + 1) (omega arith) ∙ sym (ends-more test s at t))
+      (λ t h. absurd (omega arith))
 
   ends-some : (k at : ℕ) → (upTo k test s at ≡ k → ⊥) → at + upTo k test s at ≡ ends test s at
   unfolding upTo
   ends-some zero at = λ h. absurd (h refl)
   ends-some (suc k) at =
       cond-cases (λ n. (n ≡ suc k → ⊥) → at + n ≡ ends test s at) (has test s at)
-      (λ t h. omega (arith, ends-some k (at + 1) (λ e. h (omega arith)), ends-more test s at t)) (λ t h. omega (arith, ends-stop test s at t))
+      (λ t h. omega (arith, ends-some k (at + 1) (λ e. h (omega arith)), ends-more test s at t))
+      (λ t h. omega (arith, ends-stop test s at t))
 
   module _ (k at : ℕ) {n : ℕ} (n-is : n ≡ upTo k test s at) where
     pub up-in : n ≤ length s - at
@@ -242,7 +245,8 @@ module _ (low high : ℕ) (s : List ℕ) (at : ℕ) where
       let b = between-both low high (byteAt s at) (has-byte (between low high) s at h) in
       (has-lt (between low high) s at h, b .0, b .1)
 
-  pub one-between : (e : ℕ) → one (between low high) s at ≡ whole e → (at < length s) × (low ≤ byteAt s at) × (byteAt s at ≤ high) × (e ≡ at + 1)
+  pub one-between : (e : ℕ) → one (between low high) s at ≡ whole e
+      → (at < length s) × (low ≤ byteAt s at) × (byteAt s at ≤ high) × (e ≡ at + 1)
   one-between e q =
       let o = one-has (between low high) s at e q in
       let b = has-between (o .0) in

@@ -36,7 +36,8 @@ module _ (class : ℕ → ℕ) (s : List ℕ) (at : ℕ) where
   past-letter : PastCharacter (length s) at (letterAt class s at)
   unfolding letterAt
   past-letter =
-      cond-cases (PastCharacter (length s) at) (has (isText class) s at) (λ t. omega (arith, has-lt (isText class) s at t)) (λ t. past-special s at at (omega arith))
+      cond-cases (PastCharacter (length s) at) (has (isText class) s at) (λ t. omega (arith, has-lt (isText class) s at t))
+      (λ t. past-special s at at (omega arith))
 
   past-attribute-letter : PastCharacter (length s) at (attributeLetterAt class s at)
   unfolding attributeLetterAt
@@ -114,7 +115,8 @@ module _ (s : List ℕ) where
 
     -- ---- values
 
-    letter-said : (at : ℕ) (c : Character) (text : List ℕ) → at < to → attributeLetterAt classOf s at ≡ whole c → ValueSays s to (c .end) text
+    letter-said : (at : ℕ) (c : Character) (text : List ℕ) → at < to → attributeLetterAt classOf s at ≡ whole c
+        → ValueSays s to (c .end) text
         → ValueSays s to at (c .code ∷ text)
     letter-said at c text within q = go (has isBreak s at) refl
       where
@@ -134,7 +136,8 @@ module _ (s : List ℕ) where
         letters c = attributeMeaning classOf s fuel to (c .end) >>= (λ codes. whole (c .code ∷ codes))
 
         go : ((from : ℕ) (codes : List ℕ) → attributeMeaning classOf s fuel to from ≡ whole codes → ValueSays s to from codes)
-            → (t : Bool) → ltb at to ≡ t → cond t (attributeLetterAt classOf s at >>= letters) (whole []) ≡ whole text → ValueSays s to at text
+            → (t : Bool) → ltb at to ≡ t → cond t (attributeLetterAt classOf s at >>= letters) (whole []) ≡ whole text
+            → ValueSays s to at text
         go further true within e =
             let x = then-whole letters (attributeLetterAt classOf s at) text e in
             let y = then-whole (λ codes. whole (x .0 .code ∷ codes)) (attributeMeaning classOf s fuel to (x .0 .end)) text (x .2) in
@@ -150,7 +153,8 @@ module _ (s : List ℕ) where
     value-end at out zero some enough = absurd (omega arith)
     value-end at out (suc fuel) some enough = rw (le-ltb at to out)
 
-    value-letter : (at : ℕ) (c : Character) (text : List ℕ) → at < to → attributeLetterAt classOf s at ≡ whole c → Given valueMeaning (c .end) text
+    value-letter : (at : ℕ) (c : Character) (text : List ℕ) → at < to → attributeLetterAt classOf s at ≡ whole c
+        → Given valueMeaning (c .end) text
         → Given valueMeaning at (c .code ∷ text)
     unfolding attributeMeaning
     value-letter at c text within q rest zero some enough = absurd (omega arith)
@@ -218,7 +222,8 @@ module _ (s : List ℕ) where
     content-end at out zero some enough = absurd (omega arith)
     content-end at out (suc fuel) some enough = rw (le-ltb at to out)
 
-    content-comment : (at e : ℕ) (text : List ℕ) → at < to → has (is 60) s at ≡ true → bangAt classOf s at ≡ whole e → Given textMeaning e text
+    content-comment : (at e : ℕ) (text : List ℕ) → at < to → has (is 60) s at ≡ true → bangAt classOf s at ≡ whole e
+        → Given textMeaning e text
         → Given textMeaning at text
     unfolding contentMeaning
     content-comment at e text within h q rest zero some enough = absurd (omega arith)
@@ -239,7 +244,8 @@ module _ (s : List ℕ) where
     pub content-given : {at : ℕ} {text : List ℕ} → ContentSays s to at text → Given textMeaning at text
     content-given {at} (all-done out) = content-end at out
     content-given {at} {text} (comment {e = e} within h q rest) = content-comment at e text within h q (content-given rest)
-    content-given {at} (line {text = text} within b rest) = content-letter at (asLine at) text within (no-tag at b) (text-break at b) (content-given rest)
+    content-given {at} (line {text = text} within b rest) =
+        content-letter at (asLine at) text within (no-tag at b) (text-break at b) (content-given rest)
     content-given {at} (text-byte {text = text} within n b t rest) =
         content-letter at (asByte at) text within n (text-plain at b ∙ letter-byte at t) (content-given rest)
     content-given {at} (text-special {text = text} c within n b t q rest) =

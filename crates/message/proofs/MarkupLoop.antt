@@ -24,7 +24,8 @@ module _ (class : ℕ → ℕ) (s : List ℕ) where
         let stop = ends (isPlainNote class) s at in
         let on : k ≤ stop = omega (arith, ends-from (isPlainNote class) s at) in
         cond-cases (PastPlace (length s) k) (hyphensAt s stop) (λ t. past-one s k (is 62) (stop + 2) (omega arith)) (λ t.
-        past-then (λ e. e) (λ e. e) (length s) k _ (beyondNoteAt s stop) (past-beyond-note s k stop on) (λ e p q. past-comment fuel e (omega arith)))
+        past-then (λ e. e) (λ e. e) (length s) k _ (beyondNoteAt s stop) (past-beyond-note s k stop on)
+        (λ e p q. past-comment fuel e (omega arith)))
 
     pub past-bang : (at : ℕ) → k ≤ at → PastPlace (length s) k (bangAt class s at)
     unfolding bangAt

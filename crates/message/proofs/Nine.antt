@@ -31,7 +31,8 @@ document-stuck l s n p q other = go (ltb (l .bytes) (length s)) refl
   where
     go : (t : Bool) → ltb (l .bytes) (length s) ≡ t → Stuck l s n p
     go true e =
-        let same : refused 8 0 ≡ refused n p = sym (ap (λ (t : Bool). cond t (refused 8 0) (cond (eqb 0 0) (declaredOf classOf s) (whole 0) >>= rootAt classOf s l)) e) ∙ q in
+        let same : refused 8 0 ≡ refused n p =
+        sym (ap (λ (t : Bool). cond t (refused 8 0) (cond (eqb 0 0) (declaredOf classOf s) (whole 0) >>= rootAt classOf s l)) e) ∙ q in
         let eight : 8 ≡ n = cc in
         absurd (other (sym eight))
     go false e = subst (Outcome l s (λ root. At l s (ground behind) (length s))) q (going-document l s (ltb-false (l .bytes) (length s) e))
@@ -42,7 +43,8 @@ stuck-nine l s p stuck = go (stuck .0) 9 refl (stuck .1) (stuck .2)
     go : (st : State) (n : ℕ) → n ≡ 9 → At l s st p → Cause l s st p n → NineAt s p
     go st n nine here (dies within dying) = dead within (at-continues l s st p here) (dead-continues l s st p here within dying)
     go st n nine here (cut out more) =
-        unfinished (omega (arith, at-within l s p st here)) (subst Continues (take-all p s out) (at-continues l s st p here)) (cut-readable l s st p here out more)
+        unfinished (omega (arith, at-within l s p st here)) (subst Continues (take-all p s out) (at-continues l s st p here))
+        (cut-readable l s st p here out more)
     go st n nine here (deep g q tag far levels) = absurd (omega arith)
     go st n nine here (crowded m seen o q start many crowd) = absurd (omega arith)
     go st n nine here (opens g q tag opening) = absurd (omega arith)
@@ -61,13 +63,16 @@ nine-means s l p q = go 9 refl (message-refusal l s 9 p q)
 continues-fewer : (s : List ℕ) (p q : ℕ) → p ≤ q → Continues (take q s) → Continues (take p s)
 continues-fewer s p q less on =
     let more : p + (q - p) ≡ q = omega arith in
-    let cut : take q s ≡ take p s ++ take (q - p) (drop p s) = ap (λ (i : ℕ). take i s) (sym more) ∙ take-add p (q - p) s in
-    (take (q - p) (drop p s) ++ on .0, subst Readable (ap (λ (w : List ℕ). w ++ on .0) cut ∙ append-assoc (take p s) (take (q - p) (drop p s)) (on .0)) (on .1))
+    let cut : take q s ≡ take p s ++ take (q - p) (drop p s) = ap (λ (i : ℕ). take i s) (sym more) ∙ take-add p (q - p) s in (
+      take (q - p) (drop p s) ++ on .0,
+      subst Readable (ap (λ (w : List ℕ). w ++ on .0) cut ∙ append-assoc (take p s) (take (q - p) (drop p s)) (on .0)) (on .1),
+    )
 
 -- what comes first is not dead, and a message that only ends too soon has no dead byte
 nine-before : (s : List ℕ) (p p′ : ℕ) → NineAt s p → NineAt s p′ → p < p′ → ⊥
 nine-before s p p′ (dead within on off) (dead within′ on′ off′) less = off (continues-fewer s (p + 1) p′ (omega arith) on′)
-nine-before s p p′ (dead within on off) (unfinished all on′ off′) less = off (continues-fewer s (p + 1) (length s) (omega arith) (subst Continues (sym (take-length s)) on′))
+nine-before s p p′ (dead within on off) (unfinished all on′ off′) less =
+    off (continues-fewer s (p + 1) (length s) (omega arith) (subst Continues (sym (take-length s)) on′))
 nine-before s p p′ (unfinished all on off) (dead within′ on′ off′) less = omega arith
 nine-before s p p′ (unfinished all on off) (unfinished all′ on′ off′) less = omega arith
 

@@ -111,19 +111,22 @@ past-digit hex n k x h = past-numbered hex (n * base hex + digitOf x) (leb (n * 
 past-ampersand : (k : State) (x : ℕ) → Past k → PastNext (stepAmpersand k x)
 past-ampersand k x h =
     cond-both PastNext (is 35 x) h
-    (cond-both PastNext (is 108 x) h (cond-both PastNext (is 103 x) h (cond-both PastNext (is 113 x) h (past-only (is 97 x) (ampersandA k) h))))
+    (cond-both PastNext (is 108 x) h
+    (cond-both PastNext (is 103 x) h (cond-both PastNext (is 113 x) h (past-only (is 97 x) (ampersandA k) h))))
 
 past-in-tag : (spaced : Bool) (n : List ℕ) (seen o : List (List ℕ)) (x : ℕ) → PastNext (stepInTag spaced n seen o x)
 past-in-tag spaced n seen o x =
     cond-both PastNext (isSpace classOf x) tt
-    (cond-both PastNext (is 47 x) tt (cond-both PastNext (is 62 x) refl (past-only (spaced && isStart classOf x) (attribute false (x ∷ []) n seen o) tt)))
+    (cond-both PastNext (is 47 x) tt
+    (cond-both PastNext (is 62 x) refl (past-only (spaced && isStart classOf x) (attribute false (x ∷ []) n seen o) tt)))
 
 past-step : (st : State) (x : ℕ) → Past st → PastNext (step st x)
 unfolding classOf
 past-step (ground g) x h = past-ground g x
 past-step (opened g) x h = cond-both PastNext (is 33 x) (past-rest g) (past-tag g x)
 past-step (expect t ts k) x h = past-only (t .passes x) (expecting ts k) (past-expecting ts k h)
-past-step (blanks t solid ts k) x h = cond-both PastNext (isSpace classOf x) h (past-only (t .passes x) (expecting ts k) (past-expecting ts k h))
+past-step (blanks t solid ts k) x h =
+    cond-both PastNext (isSpace classOf x) h (past-only (t .passes x) (expecting ts k) (past-expecting ts k h))
 past-step declared x h = past-only (isSpace classOf x) versionWord tt
 past-step versionQuote x h = cond-both PastNext (isSpace classOf x) tt (past-only (isQuote x) _ tt)
 past-step encodingQuote x h = cond-both PastNext (isSpace classOf x) tt (past-only (isQuote x) (encodingName x) tt)
@@ -137,7 +140,8 @@ past-step (ampersandA k) x h = cond-both PastNext (is 109 x) h (past-only (is 11
 past-step (hash k) x h = cond-both PastNext (is 120 x) h (cond-both PastNext (isDigit 10 x) (past-digit false 0 k x h) tt)
 past-step (firstDigit hex k) x h = cond-both PastNext (isDigit (base hex) x) (past-digit hex 0 k x h) tt
 past-step (number hex n small k) x h = cond-both PastNext (isDigit (base hex) x) (past-digit hex n k x h) (past-only (closes n x) k h)
-past-step (name t n o) x h = cond-both PastNext (isName classOf x) tt (cond-both PastNext (is 58 x && not t) tt (past-in-tag false n [] o x))
+past-step (name t n o) x h =
+    cond-both PastNext (isName classOf x) tt (cond-both PastNext (is 58 x && not t) tt (past-in-tag false n [] o x))
 past-step (colon n o) x h = past-only (isStart classOf x) _ tt
 past-step (inTag spaced n seen o) x h = past-in-tag spaced n seen o x
 past-step (slash o) x h = past-only (is 62 x) (after o) (past-after o)
@@ -147,14 +151,16 @@ past-step (attribute t a n seen o) x h =
     (cond-both PastNext (isSpace classOf x) tt (past-only (is 61 x) (quote n (a ∷ seen) o) tt))))
 past-step (attributeColon a n seen o) x h = past-only (isStart classOf x) _ tt
 past-step (quote n seen o) x h = cond-both PastNext (isSpace classOf x) tt (past-only (isQuote x) (value x n seen o) tt)
-past-step (value q n seen o) x h = cond-both PastNext (is q x) tt (cond-both PastNext (isText classOf x) tt (past-special (value q n seen o) x tt))
+past-step (value q n seen o) x h =
+    cond-both PastNext (is q x) tt (cond-both PastNext (isText classOf x) tt (past-special (value q n seen o) x tt))
 past-step (close y w fresh o) x h = past-only (is y x) (closing w (is 58 y) o) (past-closing w (is 58 y) o)
 
 at-past : (l : Limits) (s : List ℕ) (i : ℕ) (st : State) → At l s st (suc i) → Past st
 unfolding stateAt
 at-past l s zero st h =
     let c = came l s 0 st h in
-    subst PastNext (c .by) (subst (λ (from : State). PastNext (step from (byteAt s 0))) (goes-same (c .here)) (past-ground first (byteAt s 0)))
+    subst PastNext (c .by) (subst (λ (from : State). PastNext (step from (byteAt s 0))) (goes-same (c .here))
+    (past-ground first (byteAt s 0)))
 at-past l s (suc i) st h =
     let c = came l s (suc i) st h in
     subst PastNext (c .by) (past-step (c .from) (byteAt s (suc i)) (at-past l s i (c .from) (c .here)))

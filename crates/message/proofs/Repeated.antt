@@ -30,7 +30,8 @@ module _ (class : ℕ → ℕ) (s : List ℕ) (l : Limits) where
       word-part s w at i (y .2) h
 
   -- a name of one part, and of two
-  end-one-part : (b e at i : ℕ) → endNameAt class s l b (record { local = b; end = e }) at ≡ whole i → i ≤ length s → (at ≤ i) × (part s at i ≡ part s b e)
+  end-one-part : (b e at i : ℕ) → endNameAt class s l b (record { local = b; end = e }) at ≡ whole i → i ≤ length s
+      → (at ≤ i) × (part s at i ≡ part s b e)
   unfolding endNameAt
   end-one-part b e at i q h = end-part (part s b e) at i (cond-true _ (eq-eqb b b refl) ∙ q) h
 
@@ -39,7 +40,8 @@ module _ (class : ℕ → ℕ) (s : List ℕ) (l : Limits) where
   unfolding endNameAt
   end-two-parts b first e at i after room within colon q h =
       let second : ℕ → Reading ℕ = λ j. one (is 58) s j >>= endPartAt class s l (part s (first + 1) e) in
-      let x = then-whole second (endPartAt class s l (part s b (first + 1 - 1)) at) i (cond-false _ (ne-eqb (first + 1) b (λ z. omega arith)) ∙ q) in
+      let x = then-whole second (endPartAt class s l (part s b (first + 1 - 1)) at) i
+      (cond-false _ (ne-eqb (first + 1) b (λ z. omega arith)) ∙ q) in
       let y = then-whole (endPartAt class s l (part s (first + 1) e)) (one (is 58) s (x .0)) i (x .2) in
       let o = one-has (is 58) s (x .0) (y .0) (y .1) in
       let lead = end-part (part s b (first + 1 - 1)) at (x .0) (x .1) (omega (arith, has-lt (is 58) s (x .0) (o .0))) in
@@ -60,9 +62,11 @@ module _ (class : ℕ → ℕ) (s : List ℕ) (l : Limits) where
       → endNameAt class s l b name at ≡ whole i → i ≤ length s → (at ≤ i) × (part s at i ≡ part s b (name .end))
   end-name b name named within at i q h =
       let first = ends (isName class) s b in
-      let Repeats : Named → Type 0 = λ n. n .end ≤ length s → endNameAt class s l b n at ≡ whole i → (at ≤ i) × (part s at i ≡ part s b (n .end)) in
+      let Repeats : Named → Type 0 =
+      λ n. n .end ≤ length s → endNameAt class s l b n at ≡ whole i → (at ≤ i) × (part s at i ≡ part s b (n .end)) in
       subst Repeats (sym (name-is class s b (l .part) name named .1)) (cond-cases Repeats (has (is 58) s first)
-      (λ t l′ q′. end-two-parts b first (ends (isName class) s (first + 1)) at i (ends-from (isName class) s b) (omega (arith, ends-from (isName class) s (first + 1))) l′ t q′ h)
+      (λ t l′ q′. end-two-parts b first (ends (isName class) s (first + 1)) at i (ends-from (isName class) s b)
+      (omega (arith, ends-from (isName class) s (first + 1))) l′ t q′ h)
       (λ t l′ q′. end-one-part b first at i q′ h)) within q
 
   -- an end tag begins with the start tag's name
@@ -75,6 +79,7 @@ module _ (class : ℕ → ℕ) (s : List ℕ) (l : Limits) where
       let on = name-on class s (l .part) named in
       let i-in : x .0 ≤ length s = omega (arith, ends-from (isSpace class) s (x .0), has-lt (is 62) s (blanks class s (x .0)) (o .0)) in
       let r = end-name b name named (on .1) at (x .0) (x .1) i-in in
-      let lengths : x .0 - at ≡ name .end - b = sym (length-slice at (x .0) s i-in) ∙ (ap length (r .1) ∙ length-slice b (name .end) s (on .1)) in
+      let lengths : x .0 - at ≡ name .end - b =
+      sym (length-slice at (x .0) s i-in) ∙ (ap length (r .1) ∙ length-slice b (name .end) s (on .1)) in
       let stop : at + (name .end - b) ≡ x .0 = omega (arith, r .0) in
       ap (part s at) stop ∙ r .1

@@ -55,7 +55,9 @@ module _ (class : ℕ → ℕ) (s : List ℕ) (b : ℕ) where
 
   -- behind the first part
   abbrev onward : ℕ → ℕ → Reading Named
-  onward most end = cond (has (is 58) s end) (partAt class most s (end + 1) >>= (λ last. whole (record { local = end + 1; end = last }))) (whole (record { local = b; end = end }))
+  onward most end =
+      cond (has (is 58) s end) (partAt class most s (end + 1) >>= (λ last. whole (record { local = end + 1; end = last })))
+      (whole (record { local = b; end = end }))
 
   pub name-shape : (most : ℕ) (name : Named) → nameAt class most s b ≡ whole name → Shape name
   unfolding nameAt
@@ -65,7 +67,8 @@ module _ (class : ℕ → ℕ) (s : List ℕ) (b : ℕ) where
       go (y .0) (has (is 58) s first) refl (sym (ap (onward most) (y .1)) ∙ x .2)
     where
       go : has (isStart class) s b ≡ true → (t : Bool) → has (is 58) s first ≡ t
-          → cond t (partAt class most s (first + 1) >>= (λ last. whole (record { local = first + 1; end = last }))) (whole (record { local = b; end = first })) ≡ whole name → Shape name
+          → cond t (partAt class most s (first + 1) >>= (λ last. whole (record { local = first + 1; end = last }))) (whole (record { local = b; end = first })) ≡ whole name
+          → Shape name
       go starts true colon r =
           let x = then-whole _ (partAt class most s (first + 1)) name r in
           let y = part-ends class s (first + 1) most (x .0) (x .1) in
@@ -74,12 +77,14 @@ module _ (class : ℕ → ℕ) (s : List ℕ) (b : ℕ) where
 
   -- the name that stands there, if one does
   abbrev nameOf : Named
-  nameOf = cond (has (is 58) s first) (record { local = first + 1; end = ends (isName class) s (first + 1) }) (record { local = b; end = first })
+  nameOf =
+      cond (has (is 58) s first) (record { local = first + 1; end = ends (isName class) s (first + 1) }) (record { local = b; end = first })
 
   pub name-is : (most : ℕ) (name : Named) → nameAt class most s b ≡ whole name → (has (isStart class) s b ≡ true) × (name ≡ nameOf)
   name-is most name h = go (name-shape most name h)
     where
-      named : {local local′ end end′ : ℕ} → local ≡ local′ → end ≡ end′ → _≡_ {A = Named} (record { local = local; end = end }) (record { local = local′; end = end′ })
+      named : {local local′ end end′ : ℕ} → local ≡ local′ → end ≡ end′
+          → _≡_ {A = Named} (record { local = local; end = end }) (record { local = local′; end = end′ })
       named p q = rw (p, q)
 
       go : Shape name → (has (isStart class) s b ≡ true) × (name ≡ nameOf)
@@ -89,14 +94,16 @@ module _ (class : ℕ → ℕ) (s : List ℕ) (b : ℕ) where
   pub name-same : (most most′ : ℕ) (n n′ : Named) → nameAt class most s b ≡ whole n → nameAt class most′ s b ≡ whole n′ → n ≡ n′
   name-same most most′ n n′ q q′ = name-is most n q .1 ∙ sym (name-is most′ n′ q′ .1)
 
-  pub name-refused : (most most′ n q : ℕ) (name : Named) → nameAt class most s b ≡ whole name → nameAt class most′ s b ≡ refused n q → q ≤ name .end
+  pub name-refused : (most most′ n q : ℕ) (name : Named) → nameAt class most s b ≡ whole name → nameAt class most′ s b ≡ refused n q
+      → q ≤ name .end
   unfolding nameAt
   name-refused most most′ n q name h r = go (name-shape most name h)
     where
       -- in the first part, or behind it
       parts : has (isStart class) s b ≡ true → b ≤ name .end → (onward most′ first ≡ refused n q → q ≤ name .end) → q ≤ name .end
       parts starts far behind =
-          ⊎-elim (λ e. omega (arith, part-refused class s b most′ n q starts e)) (λ x. behind (sym (ap (onward most′) (part-ends class s b most′ (x .0) (x .1) .1)) ∙ x .2))
+          ⊎-elim (λ e. omega (arith, part-refused class s b most′ n q starts e))
+          (λ x. behind (sym (ap (onward most′) (part-ends class s b most′ (x .0) (x .1) .1)) ∙ x .2))
           (then-refused (onward most′) (partAt class most′ s b) r)
 
       go : Shape name → q ≤ name .end
@@ -105,5 +112,12 @@ module _ (class : ℕ → ℕ) (s : List ℕ) (b : ℕ) where
       go (double starts colon local starts′ run) =
           parts starts (omega (arith, local, run, ends-from (isName class) s b, ends-from (isName class) s (name .local)))
           (λ e.
-          let second = refused-then (partAt class most′ s (first + 1)) (λ last. record { local = first + 1; end = last }) (cond-true _ colon ∙ e) in
-          omega (arith, local, run, ends-from (isName class) s (name .local), part-refused class s (first + 1) most′ n q (subst (λ (i : ℕ). has (isStart class) s i ≡ true) local starts′) second))
+          let second = refused-then (partAt class most′ s (first + 1)) (λ last. record { local = first + 1; end = last })
+          (cond-true _ colon ∙ e) in
+          omega (
+            arith,
+            local,
+            run,
+            ends-from (isName class) s (name .local),
+            part-refused class s (first + 1) most′ n q (subst (λ (i : ℕ). has (isStart class) s i ≡ true) local starts′) second,
+          ))

@@ -98,7 +98,8 @@ leads-sane : (k : State) (x : ℕ) → Sane k → SaneNext (leads k x)
 leads-sane k x h =
     cond-both SaneNext (between 194 223 x) ((refl, tt), h)
     (cond-both SaneNext (between 224 239 x) h
-    (cond-both SaneNext (between 240 244 x) ((later-solid (eqb x 240) 144 (cond (eqb x 244) 143 191) (omega arith), (refl, (refl, tt))), h) tt))
+    (cond-both SaneNext (between 240 244 x)
+    ((later-solid (eqb x 240) 144 (cond (eqb x 244) 143 191) (omega arith), (refl, (refl, tt))), h) tt))
 
 special-sane : (k : State) (x : ℕ) → Sane k → SaneNext (special k x)
 special-sane k x h = cond-both SaneNext (is 38 x) h (leads-sane k x h)
@@ -142,18 +143,22 @@ ampersand-sane k x h =
     (cond-both SaneNext (is 103 x) ((refl, (refl, tt)), h)
     (cond-both SaneNext (is 113 x) ((refl, (refl, (refl, (refl, tt)))), h) (cond-both SaneNext (is 97 x) h tt))))
 
-blanks-sane : (t : Test) (solid : isSpace classOf (t .sample) ≡ false) (ts : List Test) (k : State) (x : ℕ) → Solid (t ∷ ts) → Sane k → SaneNext (stepBlanks t solid ts k x)
-blanks-sane t solid ts k x h so = cond-both SaneNext (isSpace classOf x) (h, so) (cond-both SaneNext (t .passes x) (expecting-sane ts k (h .1) so) tt)
+blanks-sane : (t : Test) (solid : isSpace classOf (t .sample) ≡ false) (ts : List Test) (k : State) (x : ℕ) → Solid (t ∷ ts) → Sane k
+    → SaneNext (stepBlanks t solid ts k x)
+blanks-sane t solid ts k x h so =
+    cond-both SaneNext (isSpace classOf x) (h, so) (cond-both SaneNext (t .passes x) (expecting-sane ts k (h .1) so) tt)
 
 in-tag-sane : (spaced : Bool) (n : List ℕ) (seen o : List (List ℕ)) (x : ℕ) → EachNameLike (n ∷ o) → SaneNext (stepInTag spaced n seen o x)
 in-tag-sane spaced n seen o x h =
-    cond-both SaneNext (isSpace classOf x) h (cond-both SaneNext (is 47 x) (h .1) (cond-both SaneNext (is 62 x) h (cond-both SaneNext (spaced && isStart classOf x) h tt)))
+    cond-both SaneNext (isSpace classOf x) h
+    (cond-both SaneNext (is 47 x) (h .1) (cond-both SaneNext (is 62 x) h (cond-both SaneNext (spaced && isStart classOf x) h tt)))
 
 attribute-sane : (t : Bool) (a n : List ℕ) (seen o : List (List ℕ)) (x : ℕ) → EachNameLike (n ∷ o) → SaneNext (stepAttribute t a n seen o x)
 unfolding classOf
 attribute-sane t a n seen o x h =
     cond-both SaneNext (isName classOf x) h
-    (cond-both SaneNext (is 58 x && not t) h (cond-both SaneNext (isKnown a seen) tt (blanks-sane (exact 61) _ [] (quote n (a ∷ seen) o) x (refl, tt) h)))
+    (cond-both SaneNext (is 58 x && not t) h
+    (cond-both SaneNext (isKnown a seen) tt (blanks-sane (exact 61) _ [] (quote n (a ∷ seen) o) x (refl, tt) h)))
 
 next-sane : (st : State) (x : ℕ) → Sane st → SaneNext (step st x)
 unfolding classOf
@@ -161,9 +166,11 @@ next-sane (ground g) x h = cond-both SaneNext (is 60 x) h (between-sane g x h)
 next-sane (opened g) x h = cond-both SaneNext (is 33 x) ((refl, (refl, tt)), rest-sane g h) (tag-sane g x h)
 next-sane (expect t ts k) x h = cond-both SaneNext (t .passes x) (expecting-sane ts k (h .0 .1) (h .1)) tt
 next-sane (blanks t solid ts k) x h = blanks-sane t solid ts k x (h .0) (h .1)
-next-sane declared x h = cond-both SaneNext (isSpace classOf x) ((refl, (refl, (refl, (refl, (refl, (refl, (refl, tt))))))), ((refl, tt), tt)) tt
+next-sane declared x h =
+    cond-both SaneNext (isSpace classOf x) ((refl, (refl, (refl, (refl, (refl, (refl, (refl, tt))))))), ((refl, tt), tt)) tt
 next-sane versionQuote x h =
-    cond-both SaneNext (isSpace classOf x) tt (cond-cases SaneNext (isQuote x) (λ e. ((refl, (refl, (refl, (quote-no-tag x e, tt)))), tt)) (λ e. tt))
+    cond-both SaneNext (isSpace classOf x) tt
+    (cond-cases SaneNext (isQuote x) (λ e. ((refl, (refl, (refl, (quote-no-tag x e, tt)))), tt)) (λ e. tt))
 next-sane encodingQuote x h = cond-both SaneNext (isSpace classOf x) tt (cond-cases SaneNext (isQuote x) (λ e. e) (λ e. tt))
 next-sane (versioned spaced) x h =
     cond-both SaneNext (isSpace classOf x) tt
@@ -175,10 +182,12 @@ next-sane (encodingName q) x h =
 next-sane (note hyphens k) x h = note-sane hyphens k x h
 next-sane (second lead k) x h = cond-both SaneNext (secondOfThree lead x) ((refl, tt), h) tt
 next-sane (ampersand k) x h = ampersand-sane k x h
-next-sane (ampersandA k) x h = cond-both SaneNext (is 109 x) ((refl, (refl, tt)), h) (cond-both SaneNext (is 112 x) ((refl, (refl, (refl, tt))), h) tt)
+next-sane (ampersandA k) x h =
+    cond-both SaneNext (is 109 x) ((refl, (refl, tt)), h) (cond-both SaneNext (is 112 x) ((refl, (refl, (refl, tt))), h) tt)
 next-sane (hash k) x h = cond-both SaneNext (is 120 x) h (cond-both SaneNext (isDigit 10 x) (digit-sane false 0 k x h) tt)
 next-sane (firstDigit hex k) x h = cond-both SaneNext (isDigit (base hex) x) (digit-sane hex 0 k x h) tt
-next-sane (number hex n small k) x h = cond-both SaneNext (isDigit (base hex) x) (digit-sane hex n k x h) (cond-both SaneNext (closes n x) h tt)
+next-sane (number hex n small k) x h =
+    cond-both SaneNext (isDigit (base hex) x) (digit-sane hex n k x h) (cond-both SaneNext (closes n x) h tt)
 next-sane (name t n o) x h =
     cond-cases SaneNext (isName classOf x) (λ e. (longer n x (h .0) (name-letter x e), h .1))
     (λ e. cond-both SaneNext (is 58 x && not t) (longer n 58 (h .0) colon-letter, h .1) (in-tag-sane false n [] o x h))

@@ -40,7 +40,8 @@ module _ (s : List ℕ) where
   spelled-word [] p h = let none : p ≡ p + 0 = omega arith in ap whole none
   spelled-word (b ∷ w) p h =
       let many : suc (length w) ≡ min (p + suc (length w)) (length s) - p = sym (ap length h) ∙ part-length s p (p + suc (length w)) in
-      let within : p + suc (length w) ≤ length s = omega (arith, many, min-le-right (p + suc (length w)) (length s), min-le-left (p + suc (length w)) (length s)) in
+      let within : p + suc (length w) ≤ length s =
+      omega (arith, many, min-le-right (p + suc (length w)) (length s), min-le-left (p + suc (length w)) (length s)) in
       let both = same-head (sym (part-some s p (p + suc (length w)) (omega arith) within) ∙ h) in
       let far : p + 1 + length w ≡ p + suc (length w) = omega arith in
       let stands : has (is b) s p ≡ true = has-in (is b) s p (omega arith) ∙ eq-eqb (byteAt s p) b (both .0) in
@@ -66,15 +67,19 @@ module _ (s : List ℕ) where
     two-on : p + 1 + 1 ≡ p + 2
     two-on = omega arith
 
-    bang : (w : List ℕ) → has (is 60) s p ≡ true → has (is 33) s (p + 1) ≡ true → isWhole (wordAt w s (p + 2)) ≡ true → Spelled (60 ∷ 33 ∷ w) s p
+    bang : (w : List ℕ) → has (is 60) s p ≡ true → has (is 33) s (p + 1) ≡ true → isWhole (wordAt w s (p + 2)) ≡ true
+        → Spelled (60 ∷ 33 ∷ w) s p
     unfolding wordAt
     bang w tag b h =
         let x = whole-is (wordAt w s (p + 2)) h in
-        word-spelled (60 ∷ 33 ∷ w) p (x .0) (rw (one-yes (is 60) s p tag, one-yes (is 33) s (p + 1) b, two-on) (x .1)) (omega (arith, has-lt (is 60) s p tag))
+        word-spelled (60 ∷ 33 ∷ w) p (x .0) (rw (one-yes (is 60) s p tag, one-yes (is 33) s (p + 1) b, two-on) (x .1))
+        (omega (arith, has-lt (is 60) s p tag))
 
     question : has (is 60) s p ≡ true → has (is 63) s (p + 1) ≡ true → Spelled (codes "<?") s p
     unfolding wordAt
-    question tag mark = word-spelled (codes "<?") p (p + 1 + 1) (rw (one-yes (is 60) s p tag, one-yes (is 63) s (p + 1) mark)) (omega (arith, has-lt (is 60) s p tag))
+    question tag mark =
+        word-spelled (codes "<?") p (p + 1 + 1) (rw (one-yes (is 60) s p tag, one-yes (is 63) s (p + 1) mark))
+        (omega (arith, has-lt (is 60) s p tag))
 
     abbrev words : Bool
     words = isWhole (wordAt markup.doctype s (p + 2)) || isWhole (wordAt markup.cdata s (p + 2))
@@ -92,13 +97,16 @@ module _ (s : List ℕ) where
         banged b =
             let mark = both-first (has (is 33) s (p + 1)) words b in
             ⊎-elim (λ d. doctype (bang markup.doctype tag mark d)) (λ c. cdata (bang markup.cdata tag mark c))
-            (either (isWhole (wordAt markup.doctype s (p + 2))) (isWhole (wordAt markup.cdata s (p + 2))) (both-second (has (is 33) s (p + 1)) words b))
+            (either (isWhole (wordAt markup.doctype s (p + 2))) (isWhole (wordAt markup.cdata s (p + 2)))
+            (both-second (has (is 33) s (p + 1)) words b))
 
         questioned : asking ≡ true → Opening s p
         questioned b =
             let mark = both-first (has (is 63) s (p + 1)) (not (isFirst g && declares classOf s)) b in
-            let plain = not-true (isFirst g && declares classOf s) (both-second (has (is 63) s (p + 1)) (not (isFirst g && declares classOf s)) b) in
-            instruction (question tag mark) (λ none d. true≢false (sym (sym (and-true (declares classOf s) (start none)) ∙ declares-is d) ∙ plain))
+            let plain = not-true (isFirst g && declares classOf s)
+            (both-second (has (is 63) s (p + 1)) (not (isFirst g && declares classOf s)) b) in
+            instruction (question tag mark)
+            (λ none d. true≢false (sym (sym (and-true (declares classOf s) (start none)) ∙ declares-is d) ∙ plain))
 
     pub stands-opening : (isFirst g ≡ true → p ≡ 0) → Opening s p → (has (is 60) s p ≡ true) × (opening l s g p ≡ true)
     stands-opening start (doctype h) =
@@ -107,17 +115,24 @@ module _ (s : List ℕ) where
         (x .0, rw (y .0, ap isWhole (ap (wordAt markup.doctype s) (sym two-on) ∙ y .1)))
     stands-opening start (cdata h) =
         let x = word-first s 60 (33 ∷ markup.cdata) p (p + 9) (spelled-word (60 ∷ 33 ∷ markup.cdata) p h) in
-        let y = word-first s 33 markup.cdata (p + 1) (p + 9) (x .1) in
-        (x .0, sym (or-true asking (sym (and-true words (y .0)) ∙ or-last (isWhole (wordAt markup.doctype s (p + 2))) (ap isWhole (ap (wordAt markup.cdata s) (sym two-on) ∙ y .1)))))
+        let y = word-first s 33 markup.cdata (p + 1) (p + 9) (x .1) in (
+          x .0,
+          sym (or-true asking (sym (and-true words (y .0)) ∙ or-last (isWhole (wordAt markup.doctype s (p + 2))) (ap isWhole (ap (wordAt markup.cdata s) (sym two-on) ∙ y .1)))),
+        )
     stands-opening start (instruction h other) =
         let x = word-first s 60 (63 ∷ []) p (p + 2) (spelled-word (codes "<?") p h) in
-        let y = word-first s 63 [] (p + 1) (p + 2) (x .1) in
-        (x .0, or-last banging (sym (and-true (not (isFirst g && declares classOf s)) (y .0)) ∙ not-both (isFirst g) (λ f. never (declares classOf s) (λ d. other (start f) (is-declares d)))))
+        let y = word-first s 63 [] (p + 1) (p + 2) (x .1) in (
+          x .0,
+          or-last banging (sym (and-true (not (isFirst g && declares classOf s)) (y .0))
+              ∙ not-both (isFirst g) (λ f. never (declares classOf s) (λ d. other (start f) (is-declares d)))),
+        )
 
     -- no name begins behind the `<` of an opening
     pub opening-no-start : opening l s g p ≡ true → has (isStart classOf) s (p + 1) ≡ true → ⊥
     opening-no-start h start =
-        ⊎-elim (λ b. other 33 bang-no-start (both-first (has (is 33) s (p + 1)) words b)) (λ b. other 63 question-no-start (both-first (has (is 63) s (p + 1)) (not (isFirst g && declares classOf s)) b)) (either banging asking h)
+        ⊎-elim (λ b. other 33 bang-no-start (both-first (has (is 33) s (p + 1)) words b))
+        (λ b. other 63 question-no-start (both-first (has (is 63) s (p + 1)) (not (isFirst g && declares classOf s)) b))
+        (either banging asking h)
       where
         other : (b : ℕ) → isStart classOf b ≡ false → has (is b) s (p + 1) ≡ true → ⊥
         other b no-start stands = true≢false (sym start ∙ has-known b s (p + 1) stands (isStart classOf) ∙ no-start)

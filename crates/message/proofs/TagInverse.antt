@@ -38,8 +38,10 @@ attribute-on s last to stands =
     let q : ℕ = blanks classOf s last in
     let e : ℕ = stands .name .end in
     let b : last < q = omega (arith, ends-more (isSpace classOf) s last (stands .space), ends-from (isSpace classOf) s (last + 1)) in
-    let c : q - 1 < e = past-whole (λ m. m .end) (length s) (q - 1) (stands .named .1) (past-name classOf s (q - 1) (stands .named .0) q (omega arith)) .0 in
-    let d : e - 1 < stands .value .to = past-whole (λ v. v .to) (length s) (e - 1) (stands .valued) (past-quoted classOf s (e - 1) e (omega arith)) .0 in
+    let c : q - 1 < e =
+    past-whole (λ m. m .end) (length s) (q - 1) (stands .named .1) (past-name classOf s (q - 1) (stands .named .0) q (omega arith)) .0 in
+    let d : e - 1 < stands .value .to =
+    past-whole (λ v. v .to) (length s) (e - 1) (stands .valued) (past-quoted classOf s (e - 1) e (omega arith)) .0 in
     (b, omega arith, omega (arith, stands .ends))
 
 -- ---- the machine stands at the place p
@@ -76,11 +78,14 @@ module _ (l : Limits) (s : List ℕ) (p : ℕ) (st : State) (here : At l s st p)
       record { from = g .0; marked = marked; free = free; behind = at-has l s (is 60) at marked tag free (rw (has-byte (is 60) s at tag)) }
 
   -- the machine goes on there
-  pub goes-at : (i : ℕ) (x : State) → At l s x i → i < p → (due l s x i ≡ false) × ((next : State) × (step x (byteAt s i) ≡ goes next) × At l s next (i + 1))
+  pub goes-at : (i : ℕ) (x : State) → At l s x i → i < p
+      → (due l s x i ≡ false) × ((next : State) × (step x (byteAt s i) ≡ goes next) × At l s next (i + 1))
   goes-at i x at-i less =
       let a = alive-before l s p i st here less in
-      let same : a .1 .from ≡ x = state-one l s i (a .1 .from) x (a .1 .here) at-i in
-      (subst (λ (y : State). due l s y i ≡ false) same (a .1 .free), (a .0, subst (λ (y : State). step y (byteAt s i) ≡ goes (a .0)) same (a .1 .by), a .2))
+      let same : a .1 .from ≡ x = state-one l s i (a .1 .from) x (a .1 .here) at-i in (
+        subst (λ (y : State). due l s y i ≡ false) same (a .1 .free),
+        (a .0, subst (λ (y : State). step y (byteAt s i) ≡ goes (a .0)) same (a .1 .by), a .2),
+      )
 
   module _ (at : ℕ) (o : OpenedAt at) (tag : has (is 60) s at ≡ true) (starts : has (isStart classOf) s (at + 1) ≡ true) (less : at + 1 < p) where
     none : (b : ℕ) → isStart classOf b ≡ false → has (is b) s (at + 1) ≡ false
@@ -95,7 +100,8 @@ module _ (l : Limits) (s : List ℕ) (p : ℕ) (st : State) (here : At l s st p)
         go before h = refl
         go behind h =
             let x = goes-at (at + 1) (opened behind) h less .1 in
-            let y : dead ≡ goes (x .0) = sym (rw (fails-byte (is 33) s (at + 1) (has-lt (isStart classOf) s (at + 1) starts) (none 33 refl))) ∙ x .1 in
+            let y : dead ≡ goes (x .0) =
+            sym (rw (fails-byte (is 33) s (at + 1) (has-lt (isStart classOf) s (at + 1) starts) (none 33 refl))) ∙ x .1 in
             let z : _≡_ {A = ℕ} 0 1 = cc in absurd (omega arith)
         go (inside b v os) h = refl
 
@@ -121,14 +127,17 @@ module _ (l : Limits) (s : List ℕ) (p : ℕ) (st : State) (here : At l s st p)
       where
         go : (t : Bool) → leb (l .levels) (depth (o .from)) ≡ t → t ≡ false
         go true e =
-            let deep : tooDeep l s (o .from) at ≡ false = neither (opening l s (o .from) at) (tooDeep l s (o .from) at) (and-true _ tag ∙ o .free) .1 in
+            let deep : tooDeep l s (o .from) at ≡ false =
+            neither (opening l s (o .from) at) (tooDeep l s (o .from) at) (and-true _ tag ∙ o .free) .1 in
             absurd (true≢false (sym (rw (e, front, starts)) ∙ deep))
         go false e = refl
 
     -- behind the name
-    tag-named : (name : Named) → NameStands s (at + 1) name → name .end < p → Tagged l s (part s (at + 1) (name .end)) (names (o .from)) [] (name .end)
+    tag-named : (name : Named) → NameStands s (at + 1) name → name .end < p
+        → Tagged l s (part s (at + 1) (name .end)) (names (o .from)) [] (name .end)
     tag-named name stands far =
-        let w = name-was (naming l s (o .from) at place tag room) (at + 1) (name-before l s (o .from) at place tag room) name (stands .0) (stands .1) far in
+        let w = name-was (naming l s (o .from) at place tag room) (at + 1) (name-before l s (o .from) at place tag room) name (stands .0)
+        (stands .1) far in
         tagged-there l s (o .from) at place tag room name (w .0) (w .1)
 
   -- ---- attributes
@@ -162,19 +171,27 @@ module _ (l : Limits) (s : List ℕ) (p : ℕ) (st : State) (here : At l s st p)
 
       fresh-there : Fresh l s n o seen last tagged no-end e
       fresh-there =
-          let w = name-was (attributes.naming l s n o seen) q (attributes.before l s n o seen last tagged no-end (stands .space) room-there) (stands .name) (stands .named .0) (stands .named .1) (omega (arith, on .2)) in
-          go (isKnown (part s q e) seen) (going-fresh-name l s n o seen last tagged no-end (stands .space) (leb-false (l .attributes) (length seen) room-there) (stands .name) (w .0) (w .1))
+          let w = name-was (attributes.naming l s n o seen) q (attributes.before l s n o seen last tagged no-end (stands .space) room-there)
+          (stands .name) (stands .named .0) (stands .named .1) (omega (arith, on .2)) in
+          go (isKnown (part s q e) seen)
+          (going-fresh-name l s n o seen last tagged no-end (stands .space) (leb-false (l .attributes) (length seen) room-there)
+          (stands .name) (w .0) (w .1))
         where
-          go : (t : Bool) → Outcome l s (Fresh l s n o seen last tagged no-end) (cond t (refused 9 e) (whole e)) → Fresh l s n o seen last tagged no-end e
+          go : (t : Bool) → Outcome l s (Fresh l s n o seen last tagged no-end) (cond t (refused 9 e) (whole e))
+              → Fresh l s n o seen last tagged no-end e
           go true stuck = absurd (not-stuck-before l s 9 e p st stuck here (omega (arith, on .2)))
           go false fresh = fresh
 
       one-more : Tagged l s n o (part s q e ∷ seen) to
       one-more =
-          let there : At l s (inTag false n (part s q e ∷ seen) o) (stands .value .to + 1) = subst (Outcome l s (λ v. At l s (inTag false n (part s q e ∷ seen) o) (v .to + 1))) (stands .valued) (going-quoted l s n o (part s q e ∷ seen) e (fresh-there .acts)) in
-          subst (Tagged l s n o (part s q e ∷ seen)) (stands .ends) (next-tagged l s n o seen last tagged e (stands .value) no-end fresh-there (stands .valued) there)
+          let there : At l s (inTag false n (part s q e ∷ seen) o) (stands .value .to + 1) = subst (Outcome l s
+          (λ v. At l s (inTag false n (part s q e ∷ seen) o) (v .to + 1))) (stands .valued)
+          (going-quoted l s n o (part s q e ∷ seen) e (fresh-there .acts)) in
+          subst (Tagged l s n o (part s q e ∷ seen)) (stands .ends)
+          (next-tagged l s n o seen last tagged e (stands .value) no-end fresh-there (stands .valued) there)
 
-    all-tagged : (k from to : ℕ) → AttributesStand s k from to → to < p → Tagged l s n o [] from → (seen : List (List ℕ)) × Tagged l s n o seen to × (length seen ≡ k)
+    all-tagged : (k from to : ℕ) → AttributesStand s k from to → to < p → Tagged l s n o [] from
+        → (seen : List (List ℕ)) × Tagged l s n o seen to × (length seen ≡ k)
     all-tagged zero from to stand less begin = ([], subst (Tagged l s n o []) stand begin, refl)
     all-tagged (suc k) from to stand less begin =
         let further : stand .0 < to = omega (arith, attribute-on s (stand .0) to (stand .2)) in
@@ -193,17 +210,21 @@ module _ (l : Limits) (s : List ℕ) (p : ℕ) (st : State) (here : At l s st p)
       let name : Named = stands .name in
       let starts : has (isStart classOf) s (at + 1) ≡ true = name-is classOf s (at + 1) (stands .named .0) name (stands .named .1) .0 in
       let far : name .end < p = omega (arith, attributes-on k (name .end) to (stands .attributes)) in
-      let wide : at < name .end = past-whole (λ m. m .end) (length s) at (stands .named .1) (past-name classOf s at (stands .named .0) (at + 1) (omega arith)) .0 in
+      let wide : at < name .end =
+      past-whole (λ m. m .end) (length s) at (stands .named .1) (past-name classOf s at (stands .named .0) (at + 1) (omega arith)) .0 in
       let o : OpenedAt at = opened-at at may (stands .opens) (omega arith) in
       let n : List ℕ = part s (at + 1) (name .end) in
-      let x = all-tagged n (names (o .from)) k (name .end) to (stands .attributes) less (tag-named at o (stands .opens) starts (omega arith) name (stands .named) far) in
+      let x = all-tagged n (names (o .from)) k (name .end) to (stands .attributes) less
+      (tag-named at o (stands .opens) starts (omega arith) name (stands .named) far) in
       (n, names (o .from), x .0, x .1, x .2)
 
-pub tag-inverse : (l : Limits) (s : List ℕ) (p : ℕ) (st : State) → At l s st p → (at k to : ℕ) → MarkupMayBegin (take at s) → TagStands s at k to
+pub tag-inverse : (l : Limits) (s : List ℕ) (p : ℕ) (st : State) → At l s st p → (at k to : ℕ) → MarkupMayBegin (take at s)
+    → TagStands s at k to
     → has (isSpace classOf) s to ≡ true → p ≡ blanks classOf s to
     → (n : List ℕ) × (seen : List (List ℕ)) × (o : List (List ℕ)) × (st ≡ inTag true n seen o) × (length seen ≡ k)
 tag-inverse l s p st here at k to may stands space p-is =
     let less : to < p = omega (arith, p-is, ends-more (isSpace classOf) s to space, ends-from (isSpace classOf) s (to + 1)) in
     let x = tagged-at l s p st here at k to may stands less in
-    let there : At l s (inTag true (x .0) (x .2) (x .1)) p = subst (At l s (inTag true (x .0) (x .2) (x .1))) (sym p-is) (spaced l s (x .0) (x .1) (x .2) to (x .3) space) in
+    let there : At l s (inTag true (x .0) (x .2) (x .1)) p =
+    subst (At l s (inTag true (x .0) (x .2) (x .1))) (sym p-is) (spaced l s (x .0) (x .1) (x .2) to (x .3) space) in
     (x .0, x .2, x .1, state-one l s p st (inTag true (x .0) (x .2) (x .1)) here there, x .4)
