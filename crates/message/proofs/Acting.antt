@@ -62,11 +62,14 @@ module _ (l : Limits) (s : List ℕ) where
       → ((x : ℕ) → step st x ≡ f x) → mayEnd st ≡ false → ((j : ℕ) → due l s st j ≡ false) → Acts f (ends (isSpace classOf) s i)
   acts-blanks f st i acts enters like more free = go (has (isSpace classOf) s i) refl
     where
-      spaces : At l s st (i + 1) → At l s st (ends (isSpace classOf) s (i + 1))
-      spaces here = at-ends l s (isSpace classOf) (λ j h. free j) (λ x h. like x ∙ enters x h) (i + 1) here
+      stop : ℕ
+      stop = ends (isSpace classOf) s (i + 1)
+
+      spaces : has (isSpace classOf) s i ≡ true → At l s st stop
+      spaces h =
+          at-ends l s (isSpace classOf) (λ j t. free j) (λ x t. like x ∙ enters x t) (i + 1)
+          (acts-has acts (isSpace classOf) h (enters (byteAt s i) (has-byte (isSpace classOf) s i h)))
 
       go : (t : Bool) → has (isSpace classOf) s i ≡ t → Acts f (ends (isSpace classOf) s i)
-      go true h =
-          rw (ends-more (isSpace classOf) s i h)
-          (acts-as (acts-at st (ends (isSpace classOf) s (i + 1)) (spaces (acts-has acts (isSpace classOf) h (enters (byteAt s i) (has-byte (isSpace classOf) s i h)))) more (free (ends (isSpace classOf) s (i + 1)))) f (λ inside. like (byteAt s (ends (isSpace classOf) s (i + 1)))))
+      go true h = rw (ends-more (isSpace classOf) s i h) (acting (spaces h) more (free stop) (λ inside. like (byteAt s stop)))
       go false h = rw (ends-stop (isSpace classOf) s i h) acts

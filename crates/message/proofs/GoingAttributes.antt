@@ -171,13 +171,16 @@ module _ (l : Limits) (s : List ℕ) where
         unfolding freshAt
         going-fresh = space (has (isSpace classOf) s at) refl
           where
-            named-next : ℕ → Reading ℕ
-            named-next room =
-                nameAt classOf (l .part) s
-                p >>= (λ name. cond (isKnown (part s p (name .end)) seen) (refused 9 (name .end)) (whole (name .end)))
+            named : ℕ → Reading ℕ
+            named room =
+                nameAt classOf (l .part) s p
+                >>= (λ name. cond (isKnown (part s p (name .end)) seen) (refused 9 (name .end)) (whole (name .end)))
+
+            started : ℕ → Reading ℕ
+            started begin = cond (ltb (length seen) (l .attributes)) (whole p) (refused 11 p) >>= named
 
             room : has (isSpace classOf) s at ≡ true → has (isStart classOf) s p ≡ true → (t : Bool) → ltb (length seen) (l .attributes) ≡ t
-                → Outcome l s Fresh (cond t (whole p) (refused 11 p) >>= named-next)
+                → Outcome l s Fresh (cond t (whole p) (refused 11 p) >>= named)
             room h st true e =
                 outcome-then l s (NameRead l s (naming seen) p) Fresh _ (nameAt classOf (l .part) s p)
                 (going-name l s (naming seen) p
@@ -190,14 +193,14 @@ module _ (l : Limits) (s : List ℕ) where
             )
 
             start : has (isSpace classOf) s at ≡ true → (t : Bool) → has (isStart classOf) s p ≡ t
-                → Outcome l s Fresh (one (isStart classOf) s p >>= (λ begin. cond (ltb (length seen) (l .attributes)) (whole p) (refused 11 p) >>= named-next))
+                → Outcome l s Fresh (one (isStart classOf) s p >>= started)
             start h true e = rw (one-yes (isStart classOf) s p e) (room h e (ltb (length seen) (l .attributes)) refl)
             start h false e =
                 rw (one-no (isStart classOf) s p e)
                 (stuck-here l s (spaced h) refl (λ within. dies-at true within (fails-byte (isStart classOf) s p within e)))
 
             space : (t : Bool) → has (isSpace classOf) s at ≡ t
-                → Outcome l s Fresh (one (isSpace classOf) s at >>= (λ _. one (isStart classOf) s p >>= (λ begin. cond (ltb (length seen) (l .attributes)) (whole p) (refused 11 p) >>= named-next)))
+                → Outcome l s Fresh (one (isSpace classOf) s at >>= (λ _. one (isStart classOf) s p >>= started))
             space true e = rw (one-yes (isSpace classOf) s at e) (start e (has (isStart classOf) s p) refl)
             space false e =
                 let same : p ≡ at = ends-stop (isSpace classOf) s at e in

@@ -131,9 +131,15 @@ module _ (l : Limits) (s : List ℕ) where
   unfolding restAt
   going-rest d child g i deep-enough st q started = go (st .empty) refl
     where
+      emptied : Element
+      emptied = record { tag = record { begin = st .begin; name = st .name; from = 0; to = 0; end = st .from }; inside = none }
+
       filled : Content → Element
       filled c =
           record { tag = record { begin = st .begin; name = st .name; from = st .from; to = c .to; end = c .end }; inside = c .inside }
+
+      content : Reading Content
+      content = contentAt classOf s l (length s) (elementAt classOf s l d) st (st .from)
 
       starts : Starts classOf s l i st
       starts = start-starts classOf s l i st q
@@ -144,10 +150,10 @@ module _ (l : Limits) (s : List ℕ) where
           (started .filled h)
 
       go : (t : Bool) → st .empty ≡ t
-          → Outcome l s (λ e. At l s (after (names g)) (e .tag .end)) (cond t (whole (record { tag = record { begin = st .begin; name = st .name; from = 0; to = 0; end = st .from }; inside = none })) (contentAt classOf s l (length s) (elementAt classOf s l d) st (st .from) >>= (λ c. whole (filled c))))
+          → Outcome l s (λ e. At l s (after (names g)) (e .tag .end)) (cond t (whole emptied) (content >>= (λ c. whole (filled c))))
       go true h = started .emptied h
       go false h =
-          outcome-then l s _ _ _ (contentAt classOf s l (length s) (elementAt classOf s l d) st (st .from))
+          outcome-then l s _ _ _ content
           (going-content d child st (names g) (omega (arith, depth-names g))
           (name-shape classOf s (st .begin) (l .part) (st .name) (starts .named)) (length s) 0 (st .from) (omega arith) tt (within h))
           (λ c r at-c. at-c)
@@ -242,17 +248,21 @@ module _ (l : Limits) (s : List ℕ) where
       (going-around l s (suc (length s)) behind tt (λ e. absurd (true≢false (sym e))) (root .tag .end) (omega arith) out) (λ last t around′.
       outcome-then l s _ _ _ (endAt s last) (going-end last around′) (λ e u at-last. at-last))))
 
+  -- the machine stands where the root may begin
+  abbrev Begins : ℕ → Type 0
+  Begins i = (g : Ground) × Outer l s g × (isBehind g ≡ false) × (isFirst g ≡ true → declares classOf s ≡ false) × At l s (ground g) i
+
   -- A message of no more bytes than the limit allows: the machine goes to its end, or stops where it is refused.
   pub going-document : length s ≤ l .bytes → Outcome l s (λ root. At l s (ground behind) (length s)) (documentAt classOf s l 0)
   unfolding documentAt declaredOf stateAt
   going-document fits =
       rw (le-ltb (l .bytes) (length s) fits)
-      (outcome-then l s (λ i. (g : Ground) × Outer l s g × (isBehind g ≡ false) × (isFirst g ≡ true → declares classOf s ≡ false) × At l s (ground g) i) _ _ (declaredOf classOf s) declaring (λ i q at-i.
+      (outcome-then l s Begins _ _ (declaredOf classOf s) declaring (λ i q at-i.
       going-root (at-i .0) (at-i .1) (at-i .2) (at-i .3) i (at-i .4)))
     where
-      declaring : Outcome l s (λ i. (g : Ground) × Outer l s g × (isBehind g ≡ false) × (isFirst g ≡ true → declares classOf s ≡ false) × At l s (ground g) i) (declaredOf classOf s)
+      declaring : Outcome l s Begins (declaredOf classOf s)
       declaring =
-          cond-cases (Outcome l s (λ i. (g : Ground) × Outer l s g × (isBehind g ≡ false) × (isFirst g ≡ true → declares classOf s ≡ false) × At l s (ground g) i)) (declares classOf s)
+          cond-cases (Outcome l s Begins) (declares classOf s)
           (λ h. outcome-as l s _ _ (declarationAt classOf s 5) (going-declaration l s refl h)
           (λ e q at-e. (before, tt, refl, (λ f. absurd (true≢false (sym f))), at-e)))
           (λ h. (first, tt, refl, (λ f. h), refl))

@@ -106,8 +106,8 @@ module _ (l : Limits) (s : List ℕ) where
   question-opens : (g : Ground) (i : ℕ) → has (is 63) s (i + 1) ≡ true → (isFirst g ≡ true → declares classOf s ≡ false)
       → opening l s g i ≡ true
   question-opens g i h plain =
-      or-last (has (is 33) s (i + 1) && (isWhole (wordAt doctype s (i + 2)) || isWhole (wordAt cdata s (i + 2)))) {b = has (is 63) s (i + 1) && not (isFirst g && declares classOf s)}
-      (rw h (not-both (isFirst g) plain))
+      or-last (has (is 33) s (i + 1) && (isWhole (wordAt doctype s (i + 2)) || isWhole (wordAt cdata s (i + 2))))
+      {b = has (is 63) s (i + 1) && not (isFirst g && declares classOf s)} (rw h (not-both (isFirst g) plain))
 
   -- behind white space and comments, at what is neither
   pub record Around (g : Ground) (e : ℕ) : Type 0 where
@@ -117,6 +117,20 @@ module _ (l : Limits) (s : List ℕ) where
     pub solid : has (isSpace classOf) s e ≡ false
     pub no-bang : opensAt 33 s e ≡ false
     pub no-question : opensAt 63 s e ≡ false
+
+  around-along : (g g′ : Ground) (e : ℕ) → Along g g′ → Around g′ e → Around g e
+  around-along g g′ e along a = record {
+    now = a .now;
+    here = a .here;
+    along = along-then g g′ (a .now) along (a .along);
+    solid = a .solid;
+    no-bang = a .no-bang;
+    no-question = a .no-question;
+  }
+
+  -- behind white space, at a `<` and another byte
+  opens-both : (b i : ℕ) → opensAt b s i ≡ true → (has (is 60) s i ≡ true) × (has (is b) s (i + 1) ≡ true)
+  opens-both b i h = (both-first (has (is 60) s i) (has (is b) s (i + 1)) h, both-second (has (is 60) s i) (has (is b) s (i + 1)) h)
 
   pub going-around : (fuel : ℕ) (g : Ground) → Outer g → (isFirst g ≡ true → declares classOf s ≡ false) → (i : ℕ) → length s < fuel + i
       → At l s (ground g) i → Outcome l s (Around g) (aroundAt classOf fuel s i)
@@ -129,15 +143,24 @@ module _ (l : Limits) (s : List ℕ) where
       let on : i ≤ stop = ends-from (isSpace classOf) s i in
       cond-cases (Outcome l s (Around g)) (opensAt 33 s stop)
       (λ h.
+      let both = opens-both 33 stop h in
       outcome-then l s (λ e. At l s (ground (rest g′)) e) (Around g) _ (bangAt classOf s stop)
-      (going-bang g′ stop (over .1) (both-first (has (is 60) s stop) (has (is 33) s (stop + 1)) h)
-      (both-second (has (is 60) s stop) (has (is 33) s (stop + 1)) h)) (λ e q at-e.
+      (going-bang g′ stop (over .1) (both .0) (both .1)) (λ e q at-e.
       let along : Along g (rest g′) = along-rest g g′ (over .2) in
       let past : stop < e = past-whole (λ x. x) (length s) stop q (past-bang classOf s stop stop (omega arith)) .0 in
       outcome-as l s (Around (rest g′)) (Around g) (aroundAt classOf fuel s e)
       (going-around fuel (rest g′) (along .outer) (λ f. plain (along .start f)) e (omega arith) at-e)
-      (λ e′ q′ a. record { now = a .now; here = a .here; along = along-then g (rest g′) (a .now) along (a .along); solid = a .solid; no-bang = a .no-bang; no-question = a .no-question })))
+      (λ e′ q′ a. around-along g (rest g′) e′ along a)))
       (λ no-bang.
       cond-cases (Outcome l s (Around g)) (opensAt 63 s stop)
-      (λ h. (ground g′, over .1, opens g′ refl (both-first (has (is 60) s stop) (has (is 63) s (stop + 1)) h) (question-opens g′ stop (both-second (has (is 60) s stop) (has (is 63) s (stop + 1)) h) (λ f. plain (over .2 .start f)))))
-      (λ no-question. record { now = g′; here = over .1; along = over .2; solid = ends-fails (isSpace classOf) s i; no-bang = no-bang; no-question = no-question }))
+      (λ h.
+      let both = opens-both 63 stop h in
+      (ground g′, over .1, opens g′ refl (both .0) (question-opens g′ stop (both .1) (λ f. plain (over .2 .start f)))))
+      (λ no-question. record {
+        now = g′;
+        here = over .1;
+        along = over .2;
+        solid = ends-fails (isSpace classOf) s i;
+        no-bang = no-bang;
+        no-question = no-question;
+      }))
