@@ -1,5 +1,5 @@
--- A message is readable exactly if the machine goes through it to its end; so bytes have a readable continuation exactly if the machine goes through them.
--- Assumes nothing.
+-- A message is readable exactly if the machine goes through it to its end; so bytes have a readable continuation exactly if the machine
+-- goes through them. Assumes nothing.
 use Prim.Native.Nat.{ℕ, suc, _+_, _<_, _≤_}
 use mathlib.Core.Path.{_≡_, refl, sym, _∙_, ap, subst}
 use mathlib.Core.Logic.{_⊎_, ⊎-elim}

@@ -1,5 +1,5 @@
--- The machine behind the first i bytes, where nothing is due, known only by what it does with the byte there: so a state and those that behave like it are told
--- apart no further. And white space before a byte. Assumes nothing.
+-- The machine behind the first i bytes, where nothing is due, known only by what it does with the byte there: so a state and those that
+-- behave like it are told apart no further. And white space before a byte. Assumes nothing.
 use Prim.Native.Nat.{ℕ, _+_, _<_}
 use mathlib.Core.Path.{_≡_, refl, _∙_}
 use mathlib.Core.Bool.{Bool, true, false}
@@ -56,8 +56,8 @@ module _ (l : Limits) (s : List ℕ) where
       → Outcome l s (λ e. At l s next e × (e ≡ i + 1)) (one test s i)
   acts-only next test i acts = acts-one acts next test (λ h. rw (has-byte test s i h)) (λ inside h. rw (fails-byte test s i inside h))
 
-  -- White space before a byte, where the machine does what f does, and stays in a state that does the same once there was some: behind it the machine acts
-  -- like f still.
+  -- White space before a byte, where the machine does what f does, and stays in a state that does the same once there was some: behind it
+  -- the machine acts like f still.
   pub acts-blanks : (f : ℕ → Next) (st : State) (i : ℕ) → Acts f i → ((x : ℕ) → isSpace classOf x ≡ true → f x ≡ goes st)
       → ((x : ℕ) → step st x ≡ f x) → mayEnd st ≡ false → ((j : ℕ) → due l s st j ≡ false) → Acts f (ends (isSpace classOf) s i)
   acts-blanks f st i acts enters like more free = go (has (isSpace classOf) s i) refl

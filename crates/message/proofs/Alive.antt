@@ -1,4 +1,5 @@
--- Where the machine has come to a place, it went through every place before it, with nothing due there. So no cause of a refusal stands before. Assumes nothing.
+-- Where the machine has come to a place, it went through every place before it, with nothing due there. So no cause of a refusal stands
+-- before. Assumes nothing.
 use Prim.Native.Nat.{ℕ, zero, suc, _+_, _<_}
 use mathlib.Core.Path.{_≡_, sym, _∙_, ap, subst}
 use mathlib.Core.Bool.{false, true≢false, or-true as or-yes}

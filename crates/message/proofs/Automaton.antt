@@ -1,5 +1,5 @@
--- A machine that goes through a message byte by byte, with the names of the open elements. Each of its states can be brought to an end, so the first byte on
--- which it dies is the first that no continuation can follow. Assumes nothing.
+-- A machine that goes through a message byte by byte, with the names of the open elements. Each of its states can be brought to an end, so
+-- the first byte on which it dies is the first that no continuation can follow. Assumes nothing.
 use Prim.Native.Nat.{ℕ, zero, suc, _+_, _*_}
 use mathlib.Core.Path.{_≡_, refl}
 use mathlib.Core.Bool.{Bool, true, false, cond, not, _&&_}
@@ -70,8 +70,8 @@ thirdThree lead x = record { passes = thirdOfThree lead x; sample = 128; fits = 
 
 -- ---- the states
 
--- Where markup may begin: at the very start of the message, before the root, behind it, or inside an element, with how many `]` stand just before the place
--- (two for more), its name, and the names of those around it, from the inside.
+-- Where markup may begin: at the very start of the message, before the root, behind it, or inside an element, with how many `]` stand just
+-- before the place (two for more), its name, and the names of those around it, from the inside.
 pub data Ground : Type 0 where
   first before behind : Ground
   inside : ℕ → List ℕ → List (List ℕ) → Ground
@@ -84,7 +84,8 @@ pub data State : Type 0 where
   -- bytes that have to come, and the same behind white space or none
   expect : Test → List Test → State → State
   blanks : (t : Test) → isSpace classOf (t .sample) ≡ false → List Test → State → State
-  -- the declaration: behind `<?xml`; before the version's quotation mark and behind its value, with white space or not; the same of the encoding's
+  -- the declaration: behind `<?xml`; before the version's quotation mark and behind its value, with white space or not; the same of the
+  -- encoding's
   declared versionQuote encodingQuote : State
   versioned : Bool → State
   encodingName : ℕ → State
@@ -96,8 +97,8 @@ pub data State : Type 0 where
   ampersand ampersandA hash : State → State
   firstDigit : Bool → State → State
   number : Bool → (n : ℕ) → leb n 1114111 ≡ true → State → State
-  -- a start tag: in its name, whether in the second part; behind the colon; behind a name or a value, with white space or not, with the names of the attributes seen;
-  -- behind the `/`
+  -- a start tag: in its name, whether in the second part; behind the colon; behind a name or a value, with white space or not, with the
+  -- names of the attributes seen; behind the `/`
   name : Bool → List ℕ → List (List ℕ) → State
   colon : List ℕ → List (List ℕ) → State
   inTag : Bool → List ℕ → List (List ℕ) → List (List ℕ) → State

@@ -1,5 +1,5 @@
--- The numbers of refusal. The readers that take no limits refuse for the form of the message alone: what holds of 9 and of 12 holds of all their
--- refusals. Assumes nothing.
+-- The numbers of refusal. The readers that take no limits refuse for the form of the message alone: what holds of 9 and of 12 holds of all
+-- their refusals. Assumes nothing.
 use Prim.Native.Nat.{ℕ, zero, suc, _+_, _-_, _*_}
 use mathlib.Core.Path.{_≡_, refl, sym, subst}
 use mathlib.Core.Bool.{Bool, _&&_, _||_}

@@ -1,4 +1,5 @@
--- The attributes of a start tag that was read: what is found under a name is what the tag carries (specs/Seven), and the reverse. Assumes nothing.
+-- The attributes of a start tag that was read: what is found under a name is what the tag carries (specs/Seven), and the reverse.
+-- Assumes nothing.
 use Prim.Native.Nat.{ℕ, zero, suc, _+_}
 use mathlib.Core.Path.{_≡_, refl, sym, _∙_, ap, subst}
 use mathlib.Core.Logic.{_⊎_, inl, inr, ⊎-elim}

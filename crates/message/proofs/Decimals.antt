@@ -1,5 +1,5 @@
--- A text names n exactly if it is n in decimal, below 2^32: `decimalOf` goes through the digits from the left, `Decimal` adds them at the right.
--- Assumes nothing.
+-- A text names n exactly if it is n in decimal, below 2^32: `decimalOf` goes through the digits from the left, `Decimal` adds them at the
+-- right. Assumes nothing.
 use Prim.Native.Nat.{ℕ, _+_, _-_, _*_, _<_, _≤_}
 use mathlib.Core.Path.{_≡_, refl, sym, _∙_, ap, subst}
 use mathlib.Core.Bool.{Bool, true, false, cond, _&&_}

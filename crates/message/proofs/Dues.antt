@@ -1,5 +1,5 @@
--- What a limit, or refusal 12, finds due in a state of the machine, and the state behind the first bytes of a message before which nothing is due.
--- Assumes nothing.
+-- What a limit, or refusal 12, finds due in a state of the machine, and the state behind the first bytes of a message before which nothing
+-- is due. Assumes nothing.
 use Prim.Native.Nat.{ℕ, zero, suc, _+_, _-_}
 use mathlib.Core.Path.{_≡_}
 use mathlib.Core.Bool.{Bool, true, false, cond, not, _&&_, _||_}

@@ -1,5 +1,5 @@
--- What is known of a start tag, and of an element, that was read whole: its name is what is read again where it begins, and each element inside is what is
--- read again at its place. Assumes nothing.
+-- What is known of a start tag, and of an element, that was read whole: its name is what is read again where it begins, and each element
+-- inside is what is read again at its place. Assumes nothing.
 use Prim.Native.Nat.{ℕ, zero, suc, _+_, _-_}
 use mathlib.Core.Path.{_≡_, refl, sym, _∙_, ap, subst}
 use mathlib.Core.Logic.{_⊎_, inl, inr}

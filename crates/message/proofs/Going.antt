@@ -1,6 +1,6 @@
--- What the readers of specs/ do is what the machine does: where a reader is whole the machine has gone on to the state that belongs there, with nothing due on
--- the way, and where it is refused the machine stands at the place of refusal with its cause. Here is what the files about single readers share.
--- Assumes nothing.
+-- What the readers of specs/ do is what the machine does: where a reader is whole the machine has gone on to the state that belongs there,
+-- with nothing due on the way, and where it is refused the machine stands at the place of refusal with its cause. Here is what the files
+-- about single readers share. Assumes nothing.
 use Prim.Native.Nat.{ℕ, _+_, _<_, _≤_}
 use mathlib.Core.Path.{_≡_, refl}
 use mathlib.Core.Bool.{Bool, true, false}

@@ -1,5 +1,5 @@
--- The machine reads `=` and a quotation mark as `openedAt` does, before an attribute's value and in the declaration alike; and a word behind white space.
--- Assumes nothing.
+-- The machine reads `=` and a quotation mark as `openedAt` does, before an attribute's value and in the declaration alike; and a word
+-- behind white space. Assumes nothing.
 use Prim.Native.Nat.{ℕ, _+_, _-_, _<_}
 use mathlib.Core.Path.{_≡_, refl, sym, _∙_, ap, subst}
 use mathlib.Core.Bool.{true, false, cond}

@@ -1,5 +1,5 @@
--- What bytes that may follow say of the state that the machine is in: where a comment may stand markup may begin, and as many end tags as end a message are the
--- elements that are open. Assumes nothing.
+-- What bytes that may follow say of the state that the machine is in: where a comment may stand markup may begin, and as many end tags as
+-- end a message are the elements that are open. Assumes nothing.
 use Prim.Native.Nat.{ℕ, zero, suc}
 use mathlib.Core.Path.{_≡_, refl, sym, _∙_, ap}
 use mathlib.Core.Bool.{Bool, true, false, cond, _||_}

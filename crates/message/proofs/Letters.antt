@@ -1,5 +1,5 @@
--- Texts letter by letter: what `attributeMeaning` and `contentMeaning` give is what `ValueSays` and `ContentSays` say, and their fuel is enough.
--- Assumes nothing.
+-- Texts letter by letter: what `attributeMeaning` and `contentMeaning` give is what `ValueSays` and `ContentSays` say, and their fuel is
+-- enough. Assumes nothing.
 use Prim.Native.Nat.{ℕ, zero, suc, _+_, _<_, _≤_}
 use mathlib.Core.Path.{_≡_, refl, sym, _∙_, subst}
 use mathlib.Core.Bool.{Bool, true, false, cond, _&&_}

@@ -14,9 +14,9 @@ use Rattle.message.specs.Text.{beyondPlainInAt, beyondPlainAt, beyondNot
 use Rattle.message.proofs.Laws.{stopped, cond-false, and-false, has-out, ends-from, ends-out}
 use Rattle.message.proofs.Progress.{beyond-plain-in-out, beyond-plain-out, beyond-note-out}
 
--- A reader with fuel, of a message of n bytes. It stands at a P, which is at a place of the message. A turn of it first goes on to a stop, as behind a
--- run of bytes that it need not look at, and there takes a step, which may go on to another P. Where the fuel may be used up, at the end of the message,
--- none gives what one turn gives.
+-- A reader with fuel, of a message of n bytes. It stands at a P, which is at a place of the message. A turn of it first goes on to a stop,
+-- as behind a run of bytes that it need not look at, and there takes a step, which may go on to another P. Where the fuel may be used up,
+-- at the end of the message, none gives what one turn gives.
 pub record Fuelled (P B : Type 0) : Type 0 where
   pub n : ℕ
   pub place : P → ℕ

@@ -1,5 +1,5 @@
--- Comments with their `<!--` and their end, and the loop over white space and comments around the root: what is read whole ends past where it began, so
--- the loop ends, and the fuel of its reader is enough. Assumes nothing.
+-- Comments with their `<!--` and their end, and the loop over white space and comments around the root: what is read whole ends past where
+-- it began, so the loop ends, and the fuel of its reader is enough. Assumes nothing.
 use Prim.Native.Nat.{ℕ, zero, suc, _+_, _-_, _<_, _≤_}
 use mathlib.Core.Path.{_≡_, refl, sym, _∙_}
 use mathlib.Core.Bool.{false, cond, _||_}

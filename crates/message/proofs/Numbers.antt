@@ -1,5 +1,5 @@
--- The numbers of refusal of the readers that take the limits: what holds of 9, of 12 and of the number of each limit that is below the message's length
--- holds of all their refusals. Assumes nothing.
+-- The numbers of refusal of the readers that take the limits: what holds of 9, of 12 and of the number of each limit that is below the
+-- message's length holds of all their refusals. Assumes nothing.
 use Prim.Native.Nat.{ℕ, zero, suc, _+_, _-_, _<_, _≤_}
 use mathlib.Core.Path.{_≡_}
 use mathlib.Core.List.{List, [], _∷_}

@@ -1,5 +1,5 @@
--- Where a part of a name begins, as specs/Readable says by readers, the machine stands before a part: if a long run of name bytes stands there it is due, or the
--- byte is dead. Assumes nothing.
+-- Where a part of a name begins, as specs/Readable says by readers, the machine stands before a part: if a long run of name bytes stands
+-- there it is due, or the byte is dead. Assumes nothing.
 use Prim.Native.Nat.{ℕ, _+_, _<_}
 use mathlib.Core.Path.{_≡_, refl, sym, _∙_, ap, subst}
 use mathlib.Core.Logic.{_⊎_, inl, inr}

@@ -1,5 +1,5 @@
--- What is read whole ends past where it began and within the message, so the loops of the code end, and the fuel of the readers of specs/ is enough.
--- Assumes nothing.
+-- What is read whole ends past where it began and within the message, so the loops of the code end, and the fuel of the readers of specs/
+-- is enough. Assumes nothing.
 use Prim.Native.Nat.{ℕ, zero, suc, _+_, _-_, _*_, _<_, _≤_}
 use mathlib.Core.Path.{_≡_, refl, sym, _∙_, subst}
 use mathlib.Core.Bool.{Bool, true, _&&_}

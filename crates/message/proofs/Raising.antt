@@ -1,5 +1,5 @@
--- Promise 2, as specs/Raised says it: a raised limit changes only what was its own refusal, and with all limits out of the way only 9, 12 and 13 are left.
--- Assumes nothing.
+-- Promise 2, as specs/Raised says it: a raised limit changes only what was its own refusal, and with all limits out of the way only 9, 12
+-- and 13 are left. Assumes nothing.
 use Prim.Native.Nat.{ℕ}
 use mathlib.Core.Path.{_≡_, refl, sym, _∙_, ap}
 use mathlib.Core.Logic.{_⊎_, inl, inr}

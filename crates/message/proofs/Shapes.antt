@@ -1,5 +1,5 @@
--- A name that was read whole, by its parts: it is the same under any limit that it is read with, and a limit that refuses it does so no later than it ends.
--- Assumes nothing.
+-- A name that was read whole, by its parts: it is the same under any limit that it is read with, and a limit that refuses it does so no
+-- later than it ends. Assumes nothing.
 use Prim.Native.Nat.{ℕ, _+_, _-_, _≤_}
 use mathlib.Core.Path.{_≡_, refl, sym, _∙_, ap, subst}
 use mathlib.Core.Logic.{⊎-elim}

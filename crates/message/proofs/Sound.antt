@@ -1,5 +1,5 @@
--- What holds in every state that the machine comes to: its names are made of bytes of names and colons, and no byte that it waits for is a `<`.
--- Assumes nothing.
+-- What holds in every state that the machine comes to: its names are made of bytes of names and colons, and no byte that it waits for is a
+-- `<`. Assumes nothing.
 use Prim.Native.Nat.{ℕ, zero, suc, _+_, _*_, _<_}
 use mathlib.Core.Path.{_≡_, refl, subst}
 use mathlib.Core.Bool.{Bool, true, false, cond, not, _&&_}

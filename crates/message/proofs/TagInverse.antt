@@ -1,5 +1,5 @@
--- Where a start tag with its attributes stands, as specs/Readable says by readers, the machine has read it: behind the white space after it the machine stands
--- before the next attribute. Assumes nothing.
+-- Where a start tag with its attributes stands, as specs/Readable says by readers, the machine has read it: behind the white space after it
+-- the machine stands before the next attribute. Assumes nothing.
 use Prim.Native.Nat.{ℕ, zero, suc, _+_, _-_, _<_, _≤_}
 use mathlib.Core.Path.{_≡_, refl, sym, _∙_, ap, subst}
 use mathlib.Core.Bool.{Bool, true, false, cond, true≢false}

@@ -1,4 +1,5 @@
--- A value holds no mark of the kind that quotes it: neither its plain bytes, nor references, nor characters of more than one byte do. Assumes nothing.
+-- A value holds no mark of the kind that quotes it: neither its plain bytes, nor references, nor characters of more than one byte do.
+-- Assumes nothing.
 use Prim.Native.Nat.{ℕ, zero, suc, _+_, _*_, _<_, _≤_}
 use mathlib.Core.Path.{_≡_, refl, sym, _∙_, ap, subst}
 use mathlib.Core.Logic.{⊎-elim}

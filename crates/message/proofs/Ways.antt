@@ -1,5 +1,5 @@
--- The way of the machine through the first bytes of a message: where nothing is due before a place, the state there is the one that the bytes
--- before it lead to. Assumes nothing.
+-- The way of the machine through the first bytes of a message: where nothing is due before a place, the state there is the one that the
+-- bytes before it lead to. Assumes nothing.
 use Prim.Native.Nat.{ℕ, zero, suc, _<_, _≤_}
 use mathlib.Core.Path.{_≡_, refl, sym}
 use mathlib.Core.Bool.{Bool, true, false, cond, not, _&&_}
