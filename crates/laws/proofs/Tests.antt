@@ -1,7 +1,8 @@
--- Tests, as values of Bool: two that follow from each other are the same, one that cannot pass fails, and none does both. Assumes nothing.
+-- Tests, as values of Bool: two that follow from each other are the same, one that cannot pass fails, and none does both; and two together.
+-- Assumes nothing.
 use mathlib.Core.Path.{_≡_, refl, sym, _∙_}
 use mathlib.Core.Logic.{_⊎_, inl, inr}
-use mathlib.Core.Bool.{Bool, true, false, _||_}
+use mathlib.Core.Bool.{Bool, true, false, not, _&&_, _||_}
 use Prim.Native.Nat.{ℕ}
 use native.Mathlib.Omega.{arith}
 
@@ -29,3 +30,20 @@ either false b e = inr e
 pub neither : (a b : Bool) → (a || b) ≡ false → (a ≡ false) × (b ≡ false)
 neither true b e = absurd (true-false refl e)
 neither false b e = (refl, e)
+
+pub or-last : (a : Bool) {b : Bool} → b ≡ true → (a || b) ≡ true
+or-last true e = refl
+or-last false e = e
+
+pub and-last : (a : Bool) {b : Bool} → b ≡ false → (a && b) ≡ false
+and-last true e = e
+and-last false e = refl
+
+-- both do not pass, and the first does
+pub and-right : (a b : Bool) → (a && b) ≡ false → a ≡ true → b ≡ false
+and-right true b e h = e
+and-right false b e h = absurd (true-false h refl)
+
+pub not-both : (a : Bool) {b : Bool} → (a ≡ true → b ≡ false) → not (a && b) ≡ true
+not-both true h = rw (h refl)
+not-both false h = refl

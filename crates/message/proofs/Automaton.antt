@@ -1,5 +1,5 @@
--- A machine that goes through a message byte by byte, with the names of the open elements. Each of its states can be brought to an end, so the first byte on
--- which it dies is the first that no continuation can follow. Assumes nothing.
+-- A machine that goes through a message byte by byte, with the names of the open elements. Each of its states can be brought to an end, so
+-- the first byte on which it dies is the first that no continuation can follow. Assumes nothing.
 use Prim.Native.Nat.{ℕ, zero, suc, _+_, _*_}
 use mathlib.Core.Path.{_≡_, refl}
 use mathlib.Core.Bool.{Bool, true, false, cond, not, _&&_}
@@ -12,6 +12,7 @@ use Rattle.message.specs.Reading.{is, isQuote}
 use Rattle.message.specs.Characters.{later, secondOfThree, thirdOfThree, secondOfFour, isDigit, digitOf, closes}
 use Rattle.message.specs.Elements.{isKnown}
 use Rattle.message.proofs.Laws.{between-yes}
+use Rattle.message.proofs.Bytes.{solid-equals, solid-greater, solid-question, solid-v}
 
 -- ---- bytes that have to come
 
@@ -32,7 +33,8 @@ abbrev pub laterTest : Test
 laterTest = record { passes = later; sample = 128; fits = between-yes 128 191 128 (omega arith) (omega arith) }
 
 -- the second of four bytes, and the second and the third of three
-pub second-four-fits : (lead : ℕ) (t u : Bool) → eqb lead 240 ≡ t → eqb lead 244 ≡ u → between (cond t 144 128) (cond u 143 191) (cond t 144 128) ≡ true
+pub second-four-fits : (lead : ℕ) (t u : Bool) → eqb lead 240 ≡ t → eqb lead 244 ≡ u
+    → between (cond t 144 128) (cond u 143 191) (cond t 144 128) ≡ true
 second-four-fits lead true true e q = absurd (omega (arith, eqb-true lead 240 e, eqb-true lead 244 q))
 second-four-fits lead true false e q = between-yes 144 191 144 (omega arith) (omega arith)
 second-four-fits lead false true e q = between-yes 128 143 128 (omega arith) (omega arith)
@@ -45,7 +47,8 @@ secondFour lead = record {
   fits = second-four-fits lead (eqb lead 240) (eqb lead 244) refl refl;
 }
 
-pub second-three-fits : (lead : ℕ) (t u : Bool) → eqb lead 224 ≡ t → eqb lead 237 ≡ u → between (cond t 160 128) (cond u 159 191) (cond t 160 128) ≡ true
+pub second-three-fits : (lead : ℕ) (t u : Bool) → eqb lead 224 ≡ t → eqb lead 237 ≡ u
+    → between (cond t 160 128) (cond u 159 191) (cond t 160 128) ≡ true
 second-three-fits lead true true e q = absurd (omega (arith, eqb-true lead 224 e, eqb-true lead 237 q))
 second-three-fits lead true false e q = between-yes 160 191 160 (omega arith) (omega arith)
 second-three-fits lead false true e q = between-yes 128 159 128 (omega arith) (omega arith)
@@ -67,8 +70,8 @@ thirdThree lead x = record { passes = thirdOfThree lead x; sample = 128; fits = 
 
 -- ---- the states
 
--- Where markup may begin: at the very start of the message, before the root, behind it, or inside an element, with how many `]` stand just before the place
--- (two for more), its name, and the names of those around it, from the inside.
+-- Where markup may begin: at the very start of the message, before the root, behind it, or inside an element, with how many `]` stand just
+-- before the place (two for more), its name, and the names of those around it, from the inside.
 pub data Ground : Type 0 where
   first before behind : Ground
   inside : ℕ → List ℕ → List (List ℕ) → Ground
@@ -81,7 +84,8 @@ pub data State : Type 0 where
   -- bytes that have to come, and the same behind white space or none
   expect : Test → List Test → State → State
   blanks : (t : Test) → isSpace classOf (t .sample) ≡ false → List Test → State → State
-  -- the declaration: behind `<?xml`; before the version's quotation mark and behind its value, with white space or not; the same of the encoding's
+  -- the declaration: behind `<?xml`; before the version's quotation mark and behind its value, with white space or not; the same of the
+  -- encoding's
   declared versionQuote encodingQuote : State
   versioned : Bool → State
   encodingName : ℕ → State
@@ -93,8 +97,8 @@ pub data State : Type 0 where
   ampersand ampersandA hash : State → State
   firstDigit : Bool → State → State
   number : Bool → (n : ℕ) → leb n 1114111 ≡ true → State → State
-  -- a start tag: in its name, whether in the second part; behind the colon; behind a name or a value, with white space or not, with the names of the attributes seen;
-  -- behind the `/`
+  -- a start tag: in its name, whether in the second part; behind the colon; behind a name or a value, with white space or not, with the
+  -- names of the attributes seen; behind the `/`
   name : Bool → List ℕ → List (List ℕ) → State
   colon : List ℕ → List (List ℕ) → State
   inTag : Bool → List ℕ → List (List ℕ) → List (List ℕ) → State
@@ -112,23 +116,6 @@ pub data Next : Type 0 where
   goes : State → Next
 
 -- ---- a step
-
--- bytes that are no white space
-pub solid-equals : isSpace classOf 61 ≡ false
-unfolding classOf
-solid-equals = refl
-
-pub solid-greater : isSpace classOf 62 ≡ false
-unfolding classOf
-solid-greater = refl
-
-pub solid-question : isSpace classOf 63 ≡ false
-unfolding classOf
-solid-question = refl
-
-pub solid-v : isSpace classOf 118 ≡ false
-unfolding classOf
-solid-v = refl
 
 abbrev pub only : Bool → State → Next
 only t st = cond t (goes st) dead
@@ -247,7 +234,9 @@ step (opened g) x = cond (is 33 x) (goes (comment g)) (tag g x)
 step (expect t ts k) x = only (t .passes x) (expecting ts k)
 step (blanks t solid ts k) x = stepBlanks t solid ts k x
 step declared x = only (isSpace classOf x) versionWord
-step versionQuote x = cond (isSpace classOf x) (goes versionQuote) (only (isQuote x) (expect (exact 49) (exact 46 ∷ exact 48 ∷ exact x ∷ []) (versioned false)))
+step versionQuote x =
+    cond (isSpace classOf x) (goes versionQuote)
+    (only (isQuote x) (expect (exact 49) (exact 46 ∷ exact 48 ∷ exact x ∷ []) (versioned false)))
 step encodingQuote x = cond (isSpace classOf x) (goes encodingQuote) (only (isQuote x) (encodingName x))
 step (versioned spaced) x =
     cond (isSpace classOf x) (goes (versioned true))
@@ -280,4 +269,4 @@ step (close y w fresh o) x = only (is y x) (closing w (is 58 y) o)
 
 unfoldable pub steps : State → List ℕ → Next
 steps st [] = goes st
-steps st (x ∷ xs) = elim (step st x) [ | dead ↦ dead | goes st′ ↦ steps st′ xs ]
+steps st (x ∷ xs) = elim (step st x) [ dead ↦ dead | goes st′ ↦ steps st′ xs ]

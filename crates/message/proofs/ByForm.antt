@@ -1,5 +1,5 @@
--- The numbers of refusal. The readers that take no limits refuse for the form of the message alone: what holds of 9 and of 12 holds of all their
--- refusals. Assumes nothing.
+-- The numbers of refusal. The readers that take no limits refuse for the form of the message alone: what holds of 9 and of 12 holds of all
+-- their refusals. Assumes nothing.
 use Prim.Native.Nat.{ℕ, zero, suc, _+_, _-_, _*_}
 use mathlib.Core.Path.{_≡_, refl, sym, subst}
 use mathlib.Core.Bool.{Bool, _&&_, _||_}
@@ -23,12 +23,14 @@ pub data Refuses (P : ℕ → Type 0) {A : Type 0} : Reading A → Type 0 where
   with : {n p : ℕ} → P n → Refuses P (refused n p)
 
 -- the second reading is asked only where the first is whole
-pub refuses-after : {P : ℕ → Type 0} {A B : Type 0} {a : Reading A} (next : A → Reading B) → Refuses P a → ((x : A) → a ≡ whole x → Refuses P (next x))
+pub refuses-after : {P : ℕ → Type 0} {A B : Type 0} {a : Reading A} (next : A → Reading B) → Refuses P a
+    → ((x : A) → a ≡ whole x → Refuses P (next x))
     → Refuses P (a >>= next)
 refuses-after next (never {x}) g = g x refl
 refuses-after next (with h) g = with h
 
-pub refuses-then : {P : ℕ → Type 0} {A B : Type 0} {a : Reading A} (next : A → Reading B) → Refuses P a → ((x : A) → Refuses P (next x)) → Refuses P (a >>= next)
+pub refuses-then : {P : ℕ → Type 0} {A B : Type 0} {a : Reading A} (next : A → Reading B) → Refuses P a → ((x : A) → Refuses P (next x))
+    → Refuses P (a >>= next)
 refuses-then next h g = refuses-after next h (λ x q. g x)
 
 pub refuses-number : {P : ℕ → Type 0} {A : Type 0} {a : Reading A} (n p : ℕ) → Refuses P a → a ≡ refused n p → P n
@@ -61,19 +63,23 @@ module _ (P : ℕ → Type 0) (nine : P 9) (s : List ℕ) where
       cond-cases ByForm (has (between 224 239) s at) (λ t.
       refuses-then _ (form-one (secondOfThree (byteAt s at)) (at + 1)) (λ i.
       refuses-then _ (form-one (thirdOfThree (byteAt s at) (byteAt s (at + 1))) i) (λ e. never))) (λ t.
-      refuses-then _ (form-one (between 240 244) at) (λ i. refuses-then _ (form-one (secondOfFour (byteAt s at)) i) (form-last-two (joined (byteAt s at - 240) (byteAt s i))))))
+      refuses-then _ (form-one (between 240 244) at)
+      (λ i. refuses-then _ (form-one (secondOfFour (byteAt s at)) i) (form-last-two (joined (byteAt s at - 240) (byteAt s i))))))
 
   form-digits : (fuel base n at : ℕ) → ByForm (digitsAt fuel base n s at)
   unfolding digitsAt
   form-digits zero base n at = with nine
   form-digits (suc fuel) base n at =
       let more = n * base + digitOf (byteAt s at) in
-      cond-cases ByForm (has (isDigit base) s at) (λ t. cond-cases ByForm (leb more 1114111) (λ u. form-digits fuel base more (at + 1)) (λ u. with nine)) (λ t. never)
+      cond-cases ByForm (has (isDigit base) s at)
+      (λ t. cond-cases ByForm (leb more 1114111) (λ u. form-digits fuel base more (at + 1)) (λ u. with nine)) (λ t. never)
 
   form-numbered : (base at : ℕ) → ByForm (numberedAt base s at)
   unfolding numberedAt
   form-numbered base at =
-      refuses-then _ (form-one (isDigit base) at) (λ i. refuses-then _ (form-digits (suc (length s)) base 0 at) (λ n. refuses-then _ (form-one (closes (n .code)) (n .end)) (λ e. never)))
+      refuses-then _ (form-one (isDigit base) at)
+      (λ i. refuses-then _ (form-digits (suc (length s)) base 0 at)
+      (λ n. refuses-then _ (form-one (closes (n .code)) (n .end)) (λ e. never)))
 
   form-stands : (word : List ℕ) (code at : ℕ) → ByForm (standsAt word code s at)
   unfolding standsAt
@@ -97,11 +103,13 @@ module _ (P : ℕ → Type 0) (nine : P 9) (s : List ℕ) where
   pub form-start-end : (b : ℕ) (n : Named) (at : ℕ) → ByForm (startEndAt s b n at)
   unfolding startEndAt
   form-start-end b n at =
-      cond-cases ByForm (has (is 47) s at) (λ t. refuses-then _ (form-one (is 62) (at + 1)) (λ i. never)) (λ t. refuses-then _ (form-one (is 62) at) (λ i. never))
+      cond-cases ByForm (has (is 47) s at) (λ t. refuses-then _ (form-one (is 62) (at + 1)) (λ i. never))
+      (λ t. refuses-then _ (form-one (is 62) at) (λ i. never))
 
   pub form-end : (at : ℕ) → ByForm (endAt s at)
   unfolding endAt
-  form-end at = cond-cases ByForm (has (is 60) s at) (λ t. with nine) (λ t. cond-cases ByForm (ltb at (length s)) (λ u. with nine) (λ u. never))
+  form-end at =
+      cond-cases ByForm (has (is 60) s at) (λ t. with nine) (λ t. cond-cases ByForm (ltb at (length s)) (λ u. with nine) (λ u. never))
 
   module _ (class : ℕ → ℕ) where
     form-beyond-in : (at : ℕ) → ByForm (beyondPlainInAt class s at)
@@ -136,7 +144,8 @@ module _ (P : ℕ → Type 0) (nine : P 9) (s : List ℕ) where
     form-comment (suc fuel) at =
         let stop = ends (isPlainNote class) s at in
         cond-cases ByForm (hyphensAt s stop) (λ t. form-one (is 62) (stop + 2)) (λ t.
-        refuses-then _ (cond-cases ByForm (has (is 45) s stop) (λ u. never) (λ u. refuses-then _ (form-long stop) (λ c. never))) (form-comment fuel))
+        refuses-then _ (cond-cases ByForm (has (is 45) s stop) (λ u. never) (λ u. refuses-then _ (form-long stop) (λ c. never)))
+        (form-comment fuel))
 
     form-opened : (at : ℕ) → ByForm (openedAt class s at)
     unfolding openedAt equalsAt
@@ -151,7 +160,8 @@ module _ (P : ℕ → Type 0) (nine : P 9) (s : List ℕ) where
 
     form-closed : (from to : ℕ) → ByForm (closedAt s from to)
     unfolding closedAt
-    form-closed from to = cond-cases ByForm (ltb 0 from && leb from (length s)) (λ t. form-one (is (byteAt s (from - 1))) to) (λ t. with nine)
+    form-closed from to =
+        cond-cases ByForm (ltb 0 from && leb from (length s)) (λ t. form-one (is (byteAt s (from - 1))) to) (λ t. with nine)
 
     form-encoding : (at : ℕ) → ByForm (encodingAt class s at)
     unfolding encodingAt utf8At
@@ -170,7 +180,8 @@ module _ (P : ℕ → Type 0) (nine : P 9) (s : List ℕ) where
         refuses-then _ (form-opened named) (λ from.
         refuses-then _ (form-word oneDotZero from) (λ to.
         refuses-then _ (form-closed from to) (λ done.
-        cond-cases ByForm (has (is 63) s (blanks class s done)) (λ u. form-word closing (blanks class s done)) (λ u. form-encoding done)))))) (λ t. never)
+        cond-cases ByForm (has (is 63) s (blanks class s done)) (λ u. form-word closing (blanks class s done))
+        (λ u. form-encoding done)))))) (λ t. never)
 
     -- ---- those that refuse by 12 too
 

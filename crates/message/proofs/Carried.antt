@@ -1,104 +1,49 @@
--- The attributes of a start tag that was read: what is found under a name is what the tag carries (specs/Seven), and the reverse. Assumes nothing.
-use Prim.Native.Nat.{ℕ, zero, suc, _+_, _-_}
+-- The attributes of a start tag that was read: what is found under a name is what the tag carries (specs/Seven), and the reverse.
+-- Assumes nothing.
+use Prim.Native.Nat.{ℕ, zero, suc, _+_}
 use mathlib.Core.Path.{_≡_, refl, sym, _∙_, ap, subst}
 use mathlib.Core.Logic.{_⊎_, inl, inr, ⊎-elim}
 use mathlib.Core.Bool.{Bool, true, false, cond}
 use mathlib.Core.List.{List, _∷_}
-use lib.Dec.{ltb, eqb}
-use borrow.Author.Tests.{eqb-true}
 use Rattle.laws.specs.Bytes.{sameBytes}
-use Rattle.laws.proofs.Tests.{true-false, never, either}
+use Rattle.laws.proofs.Tests.{true-false, never}
 use Rattle.laws.proofs.Tails.{same-refl, same-eq}
-use Rattle.message.specs.Class.{classOf, isStart, isName, isSpace}
-use Rattle.message.specs.Reading.{Reading, _>>=_, is, has, one, ends, byteAt, blanks}
-use Rattle.message.specs.Reading.Reading.{whole, refused}
-use Rattle.message.specs.Names.{Named, shortAt, partAt, nameAt}
+use Rattle.message.specs.Class.{classOf, isStart, isSpace}
+use Rattle.message.specs.Reading.{Reading, _>>=_, has, blanks}
+use Rattle.message.specs.Reading.Reading.{whole}
+use Rattle.message.specs.Names.{Named, nameAt}
 use Rattle.message.specs.Limits.{Limits}
 use Rattle.message.specs.Elements.{part, Quoted, endsTag, quotedAt, freshAt, attributesAt}
 use Rattle.message.specs.Messages.{attributeCalled}
 use Rattle.message.specs.Readable.{AttributeStands}
 use Rattle.message.specs.Seven.{Carries}
 use Rattle.message.specs.Seven.Carries.{this, later}
-use Rattle.message.proofs.Laws.{cond-true, cond-false, has-byte, one-has}
+use Rattle.message.proofs.Laws.{cond-true, cond-false}
 use Rattle.message.proofs.Trees.{whole-same, unread, fresh-whole}
+use Rattle.message.proofs.Bytes.{has-fails, end-no-start}
 use Rattle.message.proofs.Facts.{then-whole}
-
--- ---- a name is the same under any limit that it is read with
-
-module _ (class : ℕ → ℕ) (s : List ℕ) (at : ℕ) where
-  short-ends : (most e : ℕ) → shortAt class most s at ≡ whole e → e ≡ ends (isName class) s at
-  unfolding shortAt
-  short-ends most e q = go (ltb most (ends (isName class) s at - at)) q
-    where
-      go : (t : Bool) → cond t (refused 14 at) (whole (ends (isName class) s at)) ≡ whole e → e ≡ ends (isName class) s at
-      go true h = unread h
-      go false h = sym (whole-same h)
-
-  pub part-ends : (most e : ℕ) → partAt class most s at ≡ whole e → (has (isStart class) s at ≡ true) × (e ≡ ends (isName class) s at)
-  unfolding partAt
-  part-ends most e q =
-      let x = then-whole (λ next. shortAt class most s at) (one (isStart class) s at) e q in
-      (one-has (isStart class) s at (x .0) (x .1) .0, short-ends most e (x .2))
-
--- the name that stands at the place, if one does
-abbrev pub nameOf : (ℕ → ℕ) → List ℕ → ℕ → Named
-nameOf class s at =
-    let first = ends (isName class) s at in
-    cond (has (is 58) s first) (record { local = first + 1; end = ends (isName class) s (first + 1) }) (record { local = at; end = first })
-
-module _ (class : ℕ → ℕ) (s : List ℕ) (at : ℕ) where
-  pub name-is : (most : ℕ) (n : Named) → nameAt class most s at ≡ whole n → (has (isStart class) s at ≡ true) × (n ≡ nameOf class s at)
-  unfolding nameAt
-  name-is most n q =
-      let x = then-whole _ (partAt class most s at) n q in
-      let y = part-ends class s at most (x .0) (x .1) in
-      (y .0, subst (λ (first : ℕ). n ≡ named first) (y .1) (go (x .0) (has (is 58) s (x .0)) refl (x .2)))
-    where
-      one-part : ℕ → Named
-      one-part first = record { local = at; end = first }
-
-      two-parts : ℕ → ℕ → Named
-      two-parts first last = record { local = first + 1; end = last }
-
-      named : ℕ → Named
-      named first = cond (has (is 58) s first) (two-parts first (ends (isName class) s (first + 1))) (one-part first)
-
-      go : (first : ℕ) (t : Bool) → has (is 58) s first ≡ t → cond t (partAt class most s (first + 1) >>= (λ last. whole (two-parts first last))) (whole (one-part first)) ≡ whole n
-          → n ≡ named first
-      go first true e h =
-          let x = then-whole (λ last. whole (two-parts first last)) (partAt class most s (first + 1)) n h in
-          sym (whole-same (x .2)) ∙ (ap (two-parts first) (part-ends class s (first + 1) most (x .0) (x .1) .1) ∙ cond-true _ e)
-      go first false e h = sym (whole-same h) ∙ cond-false _ e
-
-  pub name-same : (most most′ : ℕ) (n n′ : Named) → nameAt class most s at ≡ whole n → nameAt class most′ s at ≡ whole n′ → n ≡ n′
-  name-same most most′ n n′ q q′ = name-is most n q .1 ∙ sym (name-is most′ n′ q′ .1)
+use Rattle.message.proofs.Shapes.{name-is, name-same}
 
 -- ---- the attributes one by one
 
 -- no name begins at the end of a tag
 no-name : (s : List ℕ) (at : ℕ) → has endsTag s at ≡ true → has (isStart classOf) s at ≡ true → ⊥
-unfolding classOf
-no-name s at end begin = go (byteAt s at) (has-byte endsTag s at end) (has-byte (isStart classOf) s at begin)
-  where
-    starts : (x y : ℕ) → eqb x y ≡ true → isStart classOf y ≡ false → isStart classOf x ≡ true → ⊥
-    starts x y e fails h = true-false h (ap (isStart classOf) (eqb-true x y e) ∙ fails)
-
-    go : (x : ℕ) → endsTag x ≡ true → isStart classOf x ≡ true → ⊥
-    go x e begins = ⊎-elim (λ h. starts x 47 h refl begins) (λ h. starts x 62 h refl begins) (either (eqb x 47) (eqb x 62) e)
+no-name s at end begin = true-false begin (has-fails endsTag (isStart classOf) end-no-start s at end)
 
 module _ (s : List ℕ) (l : Limits) where
   abbrev place : ℕ → ℕ
   place at = blanks classOf s at
 
   record Turn (fuel : ℕ) (seen : List (List ℕ)) (at stop : ℕ) : Type 0 where
-    pub space : has (isSpace classOf) s at ≡ true
-    pub name : Named
-    pub named : nameAt classOf (l .part) s (place at) ≡ whole name
-    pub value : Quoted
-    pub valued : quotedAt classOf s (name .end) ≡ whole value
-    pub further : attributesAt classOf s l fuel (part s (place at) (name .end) ∷ seen) (value .to + 1) ≡ whole stop
+    space : has (isSpace classOf) s at ≡ true
+    name : Named
+    named : nameAt classOf (l .part) s (place at) ≡ whole name
+    value : Quoted
+    valued : quotedAt classOf s (name .end) ≡ whole value
+    further : attributesAt classOf s l fuel (part s (place at) (name .end) ∷ seen) (value .to + 1) ≡ whole stop
 
-  turn : (fuel : ℕ) (seen : List (List ℕ)) (at stop : ℕ) → attributesAt classOf s l (suc fuel) seen at ≡ whole stop → (has endsTag s (place at) ≡ true) ⊎ Turn fuel seen at stop
+  turn : (fuel : ℕ) (seen : List (List ℕ)) (at stop : ℕ) → attributesAt classOf s l (suc fuel) seen at ≡ whole stop
+      → (has endsTag s (place at) ≡ true) ⊎ Turn fuel seen at stop
   unfolding attributesAt
   turn fuel seen at stop q = go (has endsTag s (place at)) refl q
     where
@@ -108,7 +53,8 @@ module _ (s : List ℕ) (l : Limits) where
       another : ℕ → Reading ℕ
       another e = quotedAt classOf s e >>= onward e
 
-      go : (t : Bool) → has endsTag s (place at) ≡ t → cond t (whole (place at)) (freshAt classOf s l seen at (place at) >>= another) ≡ whole stop
+      go : (t : Bool) → has endsTag s (place at) ≡ t
+          → cond t (whole (place at)) (freshAt classOf s l seen at (place at) >>= another) ≡ whole stop
           → (has endsTag s (place at) ≡ true) ⊎ Turn fuel seen at stop
       go true e h = inl e
       go false e h =
@@ -129,9 +75,11 @@ module _ (s : List ℕ) (l : Limits) where
     unfolding attributeCalled
     turn-called fuel seen at stop t = rw (t .named, t .valued)
 
-    called-named : (fuel at : ℕ) (v : Quoted) → attributeCalled classOf l s (suc fuel) w at ≡ whole v → has (isStart classOf) s (place at) ≡ true
+    called-named : (fuel at : ℕ) (v : Quoted) → attributeCalled classOf l s (suc fuel) w at ≡ whole v
+        → has (isStart classOf) s (place at) ≡ true
     unfolding attributeCalled
-    called-named fuel at v q = let x = then-whole _ (nameAt classOf (l .part) s (place at)) v q in name-is classOf s (place at) (l .part) (x .0) (x .1) .0
+    called-named fuel at v q =
+        let x = then-whole _ (nameAt classOf (l .part) s (place at)) v q in name-is classOf s (place at) (l .part) (x .0) (x .1) .0
 
     ended : {at to : ℕ} → AttributeStands s at to → has endsTag s (place at) ≡ true → ⊥
     ended {at = at} a e = no-name s (place at) e (name-is classOf s (place at) (a .named .0) (a .name) (a .named .1) .0)
@@ -149,13 +97,17 @@ module _ (s : List ℕ) (l : Limits) where
         past : has endsTag s (place at) ≡ true → Carries s w at v
         past e = absurd (no-name s (place at) e (called-named fuel at v h))
 
-        go : (t : Turn fuel seen at stop) → (attributeCalled classOf l s fuel w (t .value .to + 1) ≡ whole v → Carries s w (t .value .to + 1) v) → (b : Bool) → sameBytes (part s (place at) (t .name .end)) w ≡ b
+        go : (t : Turn fuel seen at stop)
+            → (attributeCalled classOf l s fuel w (t .value .to + 1) ≡ whole v → Carries s w (t .value .to + 1) v) → (b : Bool)
+            → sameBytes (part s (place at) (t .name .end)) w ≡ b
             → cond b (whole (t .value)) (attributeCalled classOf l s fuel w (t .value .to + 1)) ≡ whole v → Carries s w at v
-        go t further true same q = subst (Carries s w at) (whole-same q) (this (stands t) (same-eq (part s (place at) (t .name .end)) w same))
+        go t further true same q =
+            subst (Carries s w at) (whole-same q) (this (stands t) (same-eq (part s (place at) (t .name .end)) w same))
         go t further false same q = later (stands t) (λ e. true-false (ap (λ (u : List ℕ). sameBytes u w) e ∙ same-refl w) same) (further q)
 
     -- and what stands there is found
-    turn-same : {fuel : ℕ} {seen : List (List ℕ)} {at to stop : ℕ} (a : AttributeStands s at to) (t : Turn fuel seen at stop) → (a .name ≡ t .name) × (a .value ≡ t .value) × (to ≡ t .value .to + 1)
+    turn-same : {fuel : ℕ} {seen : List (List ℕ)} {at to stop : ℕ} (a : AttributeStands s at to) (t : Turn fuel seen at stop)
+        → (a .name ≡ t .name) × (a .value ≡ t .value) × (to ≡ t .value .to + 1)
     turn-same {at = at} a t =
         let n : a .name ≡ t .name = name-same classOf s (place at) (a .named .0) (l .part) (a .name) (t .name) (a .named .1) (t .named) in
         let v : a .value ≡ t .value = whole-same (sym (a .valued) ∙ (ap (λ (m : Named). quotedAt classOf s (m .end)) n ∙ t .valued)) in
@@ -171,15 +123,20 @@ module _ (s : List ℕ) (l : Limits) where
         go t =
             let x = turn-same a t in
             let e : part s (place at) (t .name .end) ≡ w = ap (λ (n : Named). part s (place at) (n .end)) (sym (x .0)) ∙ same in
-            turn-called fuel seen at stop t ∙ (sym (cond-true _ (ap (λ (u : List ℕ). sameBytes u w) e ∙ same-refl w)) ∙ ap whole (sym (x .1)))
+            turn-called fuel seen at stop t
+            ∙ (sym (cond-true _ (ap (λ (u : List ℕ). sameBytes u w) e ∙ same-refl w)) ∙ ap whole (sym (x .1)))
     carries-called (suc fuel) seen at stop v q (later {to = to} a other c) =
         ⊎-elim (λ e. absurd (ended a e))
         (λ t. go t (carries-called fuel (part s (place at) (t .name .end) ∷ seen) (t .value .to + 1) stop v (t .further)))
         (turn fuel seen at stop q)
       where
-        go : (t : Turn fuel seen at stop) → (Carries s w (t .value .to + 1) v → attributeCalled classOf l s fuel w (t .value .to + 1) ≡ whole v) → attributeCalled classOf l s (suc fuel) w at ≡ whole v
+        go : (t : Turn fuel seen at stop)
+            → (Carries s w (t .value .to + 1) v → attributeCalled classOf l s fuel w (t .value .to + 1) ≡ whole v)
+            → attributeCalled classOf l s (suc fuel) w at ≡ whole v
         go t further =
             let x = turn-same a t in
-            let named : part s (place at) (a .name .end) ≡ part s (place at) (t .name .end) = ap (λ (n : Named). part s (place at) (n .end)) (x .0) in
-            let differs : sameBytes (part s (place at) (t .name .end)) w ≡ false = never _ (λ e. other (named ∙ same-eq (part s (place at) (t .name .end)) w e)) in
+            let named : part s (place at) (a .name .end) ≡ part s (place at) (t .name .end) =
+            ap (λ (n : Named). part s (place at) (n .end)) (x .0) in
+            let differs : sameBytes (part s (place at) (t .name .end)) w ≡ false =
+            never _ (λ e. other (named ∙ same-eq (part s (place at) (t .name .end)) w e)) in
             turn-called fuel seen at stop t ∙ (sym (cond-false _ differs) ∙ further (subst (λ (i : ℕ). Carries s w i v) (x .2) c))

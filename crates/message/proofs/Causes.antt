@@ -1,56 +1,46 @@
 -- What the machine's causes are in the words of specs/Due: where the link's reading is refused, that refusal is due there. Assumes nothing.
-use Prim.Native.Nat.{ℕ, suc, _+_, _-_, _<_, _≤_}
+use Prim.Native.Nat.{ℕ, _+_, _-_, _<_}
 use mathlib.Core.Path.{_≡_, refl, sym, _∙_, ap, subst}
-use mathlib.Core.Bool.{Bool, true, false, not, _&&_, _||_, true≢false}
+use mathlib.Core.Bool.{Bool, true, false, not, _&&_}
 use mathlib.Core.List.{List, [], _∷_, _++_}
 use native.Mathlib.Omega.{arith}
 use lib.ListN.{length, take}
 use lib.Seq.{take-all}
-use lib.Dec.{ltb, leb, eqb}
-use borrow.Author.Tests.{ltb-true, leb-true, eqb-true, ne-eqb}
-use Rattle.message.specs.Class.{classOf, isStart, isName, isSpace}
+use lib.Dec.{leb}
+use borrow.Author.Tests.{ltb-true}
+use Rattle.message.specs.Class.{classOf, isStart, isName}
 use Rattle.message.specs.Reading.{is, byteAt, has, ends}
 use Rattle.message.specs.Limits.{linkLimits}
-use Rattle.message.specs.Readable.{Readable, Continues, endTags, EachNameLike, Open, TagStands}
+use Rattle.message.specs.Readable.{Continues, endTags, Open, TagStands}
 use Rattle.message.specs.Due.{Due, dead, unfinished, level, attribute, opening, long}
 use Rattle.message.proofs.Laws.{has-lt, has-byte, both-second, ends-stop}
-use Rattle.message.proofs.Automaton.{Ground, first, before, behind, inside, State, ground, opened, inTag, Next, goes, step, steps}
+use Rattle.message.proofs.Past.{at-start}
+use Rattle.message.proofs.Bytes.{other-than, start-no-space, slash-no-start, greater-no-start}
+use Rattle.message.proofs.Automaton.{Ground, first, before, behind, inside, State, ground, opened, inTag, goes, step}
 use Rattle.message.proofs.Automaton as automaton
-use Rattle.message.proofs.Dues.{isBehind, isFirst, depth, tooDeep, stateAt, At}
-use Rattle.message.proofs.Going.{Crowd, Cause, dies, cut, deep, crowded, opens, longs}
-use Rattle.message.proofs.Accepted.{goes-same, steps-from, ends-readable, at-continues, goes-continues, dead-continues, cut-readable, marked-may}
+use Rattle.message.proofs.Dues.{isBehind, depth, Here}
+use Rattle.message.proofs.Going.{Cause, dies, cut, deep, crowded, opens, longs}
+use Rattle.message.proofs.Accepted.{steps-from, ends-readable, at-continues, goes-continues, dead-continues, cut-readable, marked-may}
 use Rattle.message.proofs.Endings.{finishes}
-use Rattle.message.proofs.Sound.{Sane, sane-at}
+use Rattle.message.proofs.Sound.{sane-at}
 use Rattle.message.proofs.Spelling.{opening-stands}
 use Rattle.message.proofs.Ways.{steps-at, at-within}
 
--- ---- a byte that begins a name is no other of those that matter
-
-start-other : (b x : ℕ) → isStart classOf b ≡ false → isStart classOf x ≡ true → is b x ≡ false
-start-other b x other start = ne-eqb x b (λ e. true≢false (sym start ∙ ap (isStart classOf) e ∙ other))
-
-start-no-space : (x : ℕ) → isStart classOf x ≡ true → isSpace classOf x ≡ false
-start-no-space x start = ne-eqb (classOf x) 3 (λ e. omega (arith, eqb-true (classOf x) 5 start))
-
-slash-no-start : isStart classOf 47 ≡ false
-unfolding classOf
-slash-no-start = refl
-
-greater-no-start : isStart classOf 62 ≡ false
-unfolding classOf
-greater-no-start = refl
-
-pub in-tag-goes : (n : List ℕ) (seen o : List (List ℕ)) (x : ℕ) → isStart classOf x ≡ true → step (inTag true n seen o) x ≡ goes (automaton.attribute false (x ∷ []) n seen o)
-in-tag-goes n seen o x start = rw (start-no-space x start, start-other 47 x slash-no-start start, start-other 62 x greater-no-start start, start)
+in-tag-goes : (n : List ℕ) (seen o : List (List ℕ)) (x : ℕ) → isStart classOf x ≡ true
+    → step (inTag true n seen o) x ≡ goes (automaton.attribute false (x ∷ []) n seen o)
+in-tag-goes n seen o x start =
+    rw (
+      start-no-space x start,
+      other-than (isStart classOf) 47 slash-no-start x start,
+      other-than (isStart classOf) 62 greater-no-start x start,
+      start,
+    )
 
 module _ (s : List ℕ) where
-  abbrev Here : State → ℕ → Type 0
-  Here = At linkLimits s
-
   -- ---- levels
 
   -- end tags for all open elements end the message
-  pub ground-open : (g : Ground) (p : ℕ) → Here (ground g) p → depth g ≡ 32 → Open 32 (take p s)
+  ground-open : (g : Ground) (p : ℕ) → Here s (ground g) p → depth g ≡ 32 → Open 32 (take p s)
   ground-open first p here levels = absurd (omega arith)
   ground-open before p here levels = absurd (omega arith)
   ground-open behind p here levels = absurd (omega arith)
@@ -59,31 +49,33 @@ module _ (s : List ℕ) where
     names = v ∷ o;
     many = levels;
     named = sane-at linkLimits s p (ground (inside b v o)) here;
-    closed = ends-readable (take p s ++ endTags (v ∷ o)) (steps-from (ground first) (take p s) (endTags (v ∷ o)) (ground (inside b v o)) (steps-at linkLimits s p (ground (inside b v o)) here) ∙ finishes (ground (inside b v o)));
+    closed = ends-readable (take p s ++ endTags (v ∷ o))
+        (steps-from (ground first) (take p s) (endTags (v ∷ o)) (ground (inside b v o))
+        (steps-at linkLimits s p (ground (inside b v o)) here)
+        ∙ finishes (ground (inside b v o)));
   }
 
   -- ---- each cause
 
-  ground-same : (g g′ : Ground) → ground g ≡ ground g′ → g ≡ g′
-  ground-same g g′ e = cc
-
-  at-start : (g : Ground) (p : ℕ) → Here (ground g) p → p ≡ 0 → isFirst g ≡ true
-  unfolding stateAt
-  at-start g p here none = ap isFirst (sym (ground-same first g (goes-same (sym (ap (stateAt linkLimits s) none) ∙ here))))
-
-  pub cause-due : (st : State) (p n : ℕ) → Here st p → Cause linkLimits s st p n → Due s n p
-  cause-due st p n here (dies within dying) = dead p within (at-continues linkLimits s st p here) (dead-continues linkLimits s st p here within dying)
+  pub cause-due : (st : State) (p n : ℕ) → Here s st p → Cause linkLimits s st p n → Due s n p
+  cause-due st p n here (dies within dying) =
+      dead p within (at-continues linkLimits s st p here) (dead-continues linkLimits s st p here within dying)
   cause-due st p n here (cut out more) =
       let all : length s ≡ p = omega (arith, at-within linkLimits s p st here) in
-      subst (Due s 9) all (unfinished (subst Continues (take-all p s out) (at-continues linkLimits s st p here)) (cut-readable linkLimits s st p here out more))
+      subst (Due s 9) all (unfinished (subst Continues (take-all p s out) (at-continues linkLimits s st p here))
+      (cut-readable linkLimits s st p here out more))
   cause-due st p n here (deep g q tag far levels) =
-      level p (ground-open g p (subst (λ (x : State). Here x p) q here) levels) tag (both-second (leb 32 (depth g) && not (isBehind g)) (has (isStart classOf) s (p + 1)) far)
+      level p (ground-open g p (subst (λ (x : State). Here s x p) q here) levels) tag
+      (both-second (leb 32 (depth g) && not (isBehind g)) (has (isStart classOf) s (p + 1)) far)
   cause-due st p n here (crowded m seen o q start many crowd) =
       subst (Due s 11) (sym (crowd .begins))
-      (attribute (crowd .at) (crowd .to) (marked-may linkLimits s (crowd .at) (crowd .marked)) (subst (λ (k : ℕ). TagStands s (crowd .at) k (crowd .to)) many (crowd .stands)) (crowd .space) (subst (λ (i : ℕ). has (isStart classOf) s i ≡ true) (crowd .begins) start))
+      (attribute (crowd .at) (crowd .to) (marked-may linkLimits s (crowd .at) (crowd .marked))
+      (subst (λ (k : ℕ). TagStands s (crowd .at) k (crowd .to)) many (crowd .stands)) (crowd .space)
+      (subst (λ (i : ℕ). has (isStart classOf) s i ≡ true) (crowd .begins) start))
   cause-due st p n here (opens g q tag open-there) =
-      let at-ground : Here (ground g) p = subst (λ (x : State). Here x p) q here in
-      opening p (marked-may linkLimits s p (g, at-ground)) (opening-stands s linkLimits g p (at-start g p at-ground) tag open-there)
+      let at-ground : Here s (ground g) p = subst (λ (x : State). Here s x p) q here in
+      opening p (marked-may linkLimits s p (g, at-ground))
+      (opening-stands s linkLimits g p (at-start linkLimits s p g at-ground) tag open-there)
   cause-due st p n here (longs due far next q roomy part) =
       long (part .at) p (marked-may linkLimits s (part .at) (part .marked)) (part .stands) (ltb-true 64 (ends (isName classOf) s p - p) far)
 
@@ -95,18 +87,25 @@ module _ (s : List ℕ) where
       go true h = h
       go false h = absurd (omega (arith, ends-stop (isName classOf) s p h))
 
-  tag-goes : (st : State) (g : Ground) (p : ℕ) → Here st p → st ≡ ground g → has (is 60) s p ≡ true → (p < length s) × Continues (take (p + 1) s)
-  tag-goes st g p here q tag =
-      (has-lt (is 60) s p tag, goes-continues linkLimits s st p here (has-lt (is 60) s p tag) (opened g) (ap (λ (x : State). step x (byteAt s p)) q ∙ rw (has-byte (is 60) s p tag)))
+  tag-goes : (st : State) (g : Ground) (p : ℕ) → Here s st p → st ≡ ground g → has (is 60) s p ≡ true
+      → (p < length s) × Continues (take (p + 1) s)
+  tag-goes st g p here q tag = (
+    has-lt (is 60) s p tag,
+    goes-continues linkLimits s st p here (has-lt (is 60) s p tag) (opened g)
+        (ap (λ (x : State). step x (byteAt s p)) q ∙ rw (has-byte (is 60) s p tag)),
+  )
 
   -- a byte that is refused with another number than 9 could have gone on
-  pub cause-goes : (st : State) (p n : ℕ) → Here st p → Cause linkLimits s st p n → (n ≡ 9 → ⊥) → (p < length s) × Continues (take (p + 1) s)
+  pub cause-goes : (st : State) (p n : ℕ) → Here s st p → Cause linkLimits s st p n → (n ≡ 9 → ⊥)
+      → (p < length s) × Continues (take (p + 1) s)
   cause-goes st p n here (dies within dying) other = absurd (other refl)
   cause-goes st p n here (cut out more) other = absurd (other refl)
   cause-goes st p n here (deep g q tag far levels) other = tag-goes st g p here q tag
-  cause-goes st p n here (crowded m seen o q start many crowd) other =
-      (has-lt (isStart classOf) s p start,
-      goes-continues linkLimits s st p here (has-lt (isStart classOf) s p start) _ (ap (λ (x : State). step x (byteAt s p)) q ∙ in-tag-goes m seen o (byteAt s p) (has-byte (isStart classOf) s p start)))
+  cause-goes st p n here (crowded m seen o q start many crowd) other = (
+    has-lt (isStart classOf) s p start,
+    goes-continues linkLimits s st p here (has-lt (isStart classOf) s p start) _
+        (ap (λ (x : State). step x (byteAt s p)) q ∙ in-tag-goes m seen o (byteAt s p) (has-byte (isStart classOf) s p start)),
+  )
   cause-goes st p n here (opens g q tag open-there) other = tag-goes st g p here q tag
   cause-goes st p n here (longs due far next q roomy part) other =
       let within : p < length s = has-lt (isName classOf) s p (long-name p 64 (ltb-true 64 (ends (isName classOf) s p - p) far)) in

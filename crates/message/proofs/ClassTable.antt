@@ -1,14 +1,15 @@
 -- The table of classes gives each byte the class that document 01 gives it, and what is no byte has none. Assumes nothing.
 use Prim.Native.Nat.{ℕ, zero, suc, _+_, _<_}
 use mathlib.Core.Path.{_≡_, refl, _∙_, ap, fun-ext}
-use mathlib.Core.Bool.{Bool, true, false, _&&_}
+use mathlib.Core.Bool.{false}
 use native.Mathlib.Omega.{arith}
 use native.Mathlib.Nat.{zero-add, add-zero, add-suc, suc-add}
 use native.Mathlib.Decide.{decLt}
 use lib.ListN.{length, getD, List·getD-eq-default}
-use lib.Dec.{leb, eqb}
-use borrow.Author.Tests.{lt-leb, ne-eqb}
-use Rattle.message.specs.Class.{between, classOf, classesFrom, classTable, classIn}
+use lib.Dec.{eqb}
+use borrow.Author.Tests.{ne-eqb}
+use Rattle.message.specs.Class.{classOf, classesFrom, classTable, classIn}
+use Rattle.message.proofs.Laws.{between-above}
 
 classes-length : (b n : ℕ) → length (classesFrom b n) ≡ n
 classes-length b zero = refl
@@ -20,13 +21,6 @@ classes-at b zero k h = absurd (omega arith)
 classes-at b (suc n) zero h = rw add-zero
 classes-at b (suc n) (suc k) h = classes-at (suc b) n k (omega arith) ∙ rw (add-suc, suc-add)
 
-and-none : (a b : Bool) → b ≡ false → (a && b) ≡ false
-and-none true b h = h
-and-none false b h = refl
-
-above : (low high x : ℕ) → high < x → between low high x ≡ false
-above low high x h = and-none (leb low x) (leb x high) (lt-leb x high h)
-
 other : (k x : ℕ) → k < x → eqb x k ≡ false
 other k x h = ne-eqb x k (λ e. omega arith)
 
@@ -35,17 +29,17 @@ none-above : (x : ℕ) → 127 < x → 0 ≡ classOf x
 unfolding classOf
 none-above x h =
     rw (
-      above 65 90 x (omega arith),
-      above 97 122 x (omega arith),
+      between-above 65 90 x (omega arith),
+      between-above 97 122 x (omega arith),
       other 95 x (omega arith),
-      above 48 57 x (omega arith),
+      between-above 48 57 x (omega arith),
       other 45 x (omega arith),
       other 46 x (omega arith),
       other 9 x (omega arith),
       other 10 x (omega arith),
       other 13 x (omega arith),
       other 32 x (omega arith),
-      above 33 127 x h,
+      between-above 33 127 x h,
     )
 
 pub table-is : classIn classTable ≡ classOf

@@ -1,5 +1,5 @@
--- A text names n exactly if it is n in decimal, below 2^32: `decimalOf` goes through the digits from the left, `Decimal` adds them at the right.
--- Assumes nothing.
+-- A text names n exactly if it is n in decimal, below 2^32: `decimalOf` goes through the digits from the left, `Decimal` adds them at the
+-- right. Assumes nothing.
 use Prim.Native.Nat.{ℕ, _+_, _-_, _*_, _<_, _≤_}
 use mathlib.Core.Path.{_≡_, refl, sym, _∙_, ap, subst}
 use mathlib.Core.Bool.{Bool, true, false, cond, _&&_}
@@ -59,7 +59,8 @@ names-further [] m n before positive said q =
 names-further (d ∷ digits) m n before positive said q =
     let x = names-digit m d digits n q in
     subst (λ (text : List ℕ). Said n text) (append-assoc before (d ∷ []) digits)
-    (names-further digits (with m d) n (before ++ (d ∷ [])) (omega arith) (longer d positive (x .0) (x .1) (said .0), omega (arith, x .2)) (x .3))
+    (names-further digits (with m d) n (before ++ (d ∷ [])) (omega arith)
+    (longer d positive (x .0) (x .1) (said .0), omega (arith, x .2)) (x .3))
 
 -- the first digit
 first-said : (d : ℕ) → 48 ≤ d → d ≤ 57 → Said (with 0 d) (d ∷ [])
@@ -88,7 +89,8 @@ names-decimal (d ∷ e ∷ digits) n q = go (eqb d 48) refl q
 
 -- ---- from the decimal to the reader
 
-names-on : (m d : ℕ) (digits : List ℕ) → 48 ≤ d → d ≤ 57 → with m d ≤ 4294967295 → decimalFrom m (d ∷ digits) ≡ decimalFrom (with m d) digits
+names-on : (m d : ℕ) (digits : List ℕ) → 48 ≤ d → d ≤ 57 → with m d ≤ 4294967295
+    → decimalFrom m (d ∷ digits) ≡ decimalFrom (with m d) digits
 unfolding decimalFrom
 names-on m d digits low high fit = rw (between-yes 48 57 d low high, le-leb (with m d) 4294967295 fit)
 

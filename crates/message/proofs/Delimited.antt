@@ -29,10 +29,12 @@ use Rattle.message.proofs.Unquoted.{Free, free-none, free-value}
 -- ---- attributes
 
 module _ (s : List ℕ) where
-  value-quotes : (begin stop : ℕ) → 0 < begin → isQuote (byteAt s (begin - 1)) ≡ true → valueAt classOf (length s) (byteAt s (begin - 1)) s begin ≡ whole stop → Quotes s begin stop
+  value-quotes : (begin stop : ℕ) → 0 < begin → isQuote (byteAt s (begin - 1)) ≡ true
+      → valueAt classOf (length s) (byteAt s (begin - 1)) s begin ≡ whole stop → Quotes s begin stop
   value-quotes begin stop some mark q =
       let quote = byteAt s (begin - 1) in
-      let x = subst (Every (λ stop. Free s quote begin stop × (has (is quote) s stop ≡ true))) q (free-value s quote mark begin (length s) begin (free-none s quote begin)) in
+      let x = subst (Every (λ stop. Free s quote begin stop × (has (is quote) s stop ≡ true))) q
+      (free-value s quote mark begin (length s) begin (free-none s quote begin)) in
       let on = subst (Every (λ to. (begin ≤ to) × (to < length s))) q (value-stops classOf s begin (length s) quote begin (omega arith)) in
       record {
         some = some;
@@ -90,19 +92,22 @@ module _ (s : List ℕ) where
     abbrev Grows : (ℕ → Reading Element) → Type 0
     Grows child = (at : ℕ) (e : Element) → child at ≡ whole e → at < e .tag .end
 
-    content-ends : (child : ℕ → Reading Element) → Grows child → (st : Start) (fuel at : ℕ) (c : Content) → contentAt classOf s l fuel child st at ≡ whole c → ContentEnds st at c
+    content-ends : (child : ℕ → Reading Element) → Grows child → (st : Start) (fuel at : ℕ) (c : Content)
+        → contentAt classOf s l fuel child st at ≡ whole c → ContentEnds st at c
     content-ends child grows st =
         content-every classOf s l child st (ContentEnds st)
         (λ at stop e f t h. let x = free-mark classOf s at stop f in record { order = x .0; mark = x .1; slash = t; tag = h })
         (λ at stop e c f h r. record { order = omega (arith, free-mark classOf s at stop f .0, grows stop e h, r .order); mark = r .mark; slash = r .slash; tag = r .tag })
 
-    rest-between : (child : ℕ → Reading Element) → Grows child → (at : ℕ) (st : Start) → startAt classOf s l at ≡ whole st → (e : Element) → restAt classOf s l child st ≡ whole e → Between s (e .tag)
+    rest-between : (child : ℕ → Reading Element) → Grows child → (at : ℕ) (st : Start) → startAt classOf s l at ≡ whole st → (e : Element)
+        → restAt classOf s l child st ≡ whole e → Between s (e .tag)
     rest-between child grows at st started =
         let starts = start-starts classOf s l at st started in
         let ends = tag-ends (st .begin) (st .name) (starts .attributed .0) st (starts .ends) in
         rest-cases classOf s l child st (λ e. Between s (e .tag)) (λ t. empty refl refl (ends .closed) (ends .slash t)) (λ c q.
         let x = content-ends child grows st (length s) (st .from) c q in
-        tags (ends .some) (x .order) (has-lt (is 47) s (c .to + 1) (x .slash)) (ends .closed) (byte-is 60 s (c .to) (x .mark)) (byte-is 47 s (c .to + 1) (x .slash))
+        tags (ends .some) (x .order) (has-lt (is 47) s (c .to + 1) (x .slash)) (ends .closed) (byte-is 60 s (c .to) (x .mark))
+        (byte-is 47 s (c .to + 1) (x .slash))
         (end-tag classOf s l (st .begin) (st .name) (starts .named) (c .to + 2) (c .end) (x .tag)))
 
     read-between : (e : Element) → WasRead classOf s l e → Between s (e .tag)

@@ -21,7 +21,8 @@ module _ (b : ℕ) where
         | yes h ↦
             elim (decLt 70 b) [
               | no k ↦ sym (or-true _ (between-yes 65 70 b (upper h) (omega arith)) ∙ or-false _ (between-above 48 57 b h))
-              | yes k ↦ sym (sym (between-yes 97 102 b (lower k) high) ∙ or-false _ (between-above 65 70 b k) ∙ or-false _ (between-above 48 57 b h))
+              | yes k ↦ sym (sym (between-yes 97 102 b (lower k) high) ∙ or-false _ (between-above 65 70 b k)
+                  ∙ or-false _ (between-above 48 57 b h))
             ]
       ]
 
@@ -29,7 +30,8 @@ module _ (b : ℕ) where
   hex-from h =
       elim (decLt b 48) [
         | no k ↦ omega arith
-        | yes k ↦ absurd (true≢false (sym h ∙ hex-none (between-below 48 57 b k) (between-below 65 70 b (omega arith)) (between-below 97 102 b (omega arith))))
+        | yes k ↦ absurd (true≢false
+            (sym h ∙ hex-none (between-below 48 57 b k) (between-below 65 70 b (omega arith)) (between-below 97 102 b (omega arith))))
       ]
 
   -- no hexadecimal digit stands between the capitals and the small letters
@@ -37,7 +39,8 @@ module _ (b : ℕ) where
   hex-small h above =
       elim (decLt b 97) [
         | no k ↦ omega arith
-        | yes k ↦ absurd (true≢false (sym h ∙ hex-none (between-above 48 57 b (omega arith)) (between-above 65 70 b above) (between-below 97 102 b k)))
+        | yes k ↦ absurd (true≢false
+            (sym h ∙ hex-none (between-above 48 57 b (omega arith)) (between-above 65 70 b above) (between-below 97 102 b k)))
       ]
 
   pub hex-below : b ≤ 102 → digitOf b < 16

@@ -1,5 +1,5 @@
--- What a limit, or refusal 12, finds due in a state of the machine, and the state behind the first bytes of a message before which nothing is due.
--- Assumes nothing.
+-- What a limit, or refusal 12, finds due in a state of the machine, and the state behind the first bytes of a message before which nothing
+-- is due. Assumes nothing.
 use Prim.Native.Nat.{ℕ, zero, suc, _+_, _-_}
 use mathlib.Core.Path.{_≡_}
 use mathlib.Core.Bool.{Bool, true, false, cond, not, _&&_, _||_}
@@ -9,7 +9,7 @@ use lib.Dec.{ltb, leb}
 use Rattle.message.specs.Class.{classOf, isStart, isName}
 use Rattle.message.specs.Reading.{isWhole, is, byteAt, has, ends, wordAt}
 use Rattle.message.specs.Markup.{doctype, cdata, declares}
-use Rattle.message.specs.Limits.{Limits}
+use Rattle.message.specs.Limits.{Limits, linkLimits}
 use Rattle.message.proofs.Automaton.{Ground, first, before, behind, inside, State, ground, opened, expect, blanks, declared, versionQuote, encodingQuote, versioned, encodingName, note, second, ampersand, ampersandA, hash, firstDigit, number, name, colon, inTag, slash, attribute, attributeColon, quote, value, close, Next, dead, goes, step}
 
 abbrev pub isBehind : Ground → Bool
@@ -113,3 +113,7 @@ module _ (l : Limits) (s : List ℕ) where
 
   abbrev pub At : State → ℕ → Type 0
   At st i = stateAt i ≡ goes st
+
+-- under the link's limits
+abbrev pub Here : List ℕ → State → ℕ → Type 0
+Here = At linkLimits

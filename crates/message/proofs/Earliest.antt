@@ -1,30 +1,30 @@
 -- Proves specs/Places and specs/Earliest: the link's answer is the first refusal that is due. Assumes nothing.
-use Prim.Native.Nat.{ℕ, suc, _+_, _-_, _<_, _≤_}
+use Prim.Native.Nat.{ℕ, _+_, _-_, _<_, _≤_}
 use mathlib.Core.Path.{_≡_, refl, sym, _∙_, ap, subst}
 use mathlib.Core.Logic.{_⊎_, ⊎-elim, inl, inr}
-use mathlib.Core.Bool.{Bool, true, false, cond, not, _&&_, _||_, true≢false}
-use mathlib.Core.List.{List, [], _∷_}
+use mathlib.Core.Bool.{true, cond, true≢false}
+use mathlib.Core.List.{List, []}
 use native.Mathlib.Decide.{decLt}
 use native.Mathlib.Omega.{arith}
 use lib.ListN.{length, take}
-use lib.Dec.{ltb, leb, eqb}
+use lib.Dec.{eqb}
 use borrow.Author.Tests.{lt-ltb, le-leb}
-use Rattle.message.specs.Class.{classOf, isStart, isName, isSpace}
-use Rattle.message.specs.Reading.{Reading, _>>=_, is, byteAt, has, ends, blanks}
+use Rattle.message.specs.Class.{classOf, isStart, isName}
+use Rattle.message.specs.Reading.{Reading, is, has, ends, blanks}
 use Rattle.message.specs.Reading.Reading.{whole, refused}
 use Rattle.message.specs.Words.{codes}
 use Rattle.message.specs.Limits.{linkLimits}
 use Rattle.message.specs.Elements.{Element, documentAt}
-use Rattle.message.specs.Messages.{messageAt, messageOf}
-use Rattle.message.specs.Readable.{Readable, Continues, MarkupMayBegin, PartStands}
+use Rattle.message.specs.Messages.{messageAt}
+use Rattle.message.specs.Readable.{Readable, Continues, PartStands}
 use Rattle.message.specs.Due.{Opening, doctype, cdata, instruction, Due, dead, unfinished, level, attribute, opening, long}
 use Rattle.message.specs.Places.{PlaceOfTen, PlaceOfEleven, PlaceOfTwelve, PlaceOfFourteen}
 use Rattle.message.specs.Earliest.{rank, FirstDue, NoneDue, answer, Answered, EarliestWins}
 use Rattle.message.specs.declared.Message.{Message}
 use Rattle.message.proofs.Laws.{has-lt}
+use Rattle.message.proofs.Dues.{Here}
 use Rattle.message.proofs.Facts.{then-whole}
 use Rattle.message.proofs.Automaton.{Ground, behind, State, ground, inTag}
-use Rattle.message.proofs.Dues.{At}
 use Rattle.message.proofs.Going.{Cause, dies, cut, deep, crowded, opens, longs, Stuck, Outcome}
 use Rattle.message.proofs.GoingElements.{going-document}
 use Rattle.message.proofs.Accepted.{whole-fits, at-continues}
@@ -42,9 +42,6 @@ abbrev unrank : ℕ → ℕ
 unrank r = cond (eqb r 0) 9 (cond (eqb r 1) 11 (cond (eqb r 2) 14 (cond (eqb r 3) 10 12)))
 
 module _ (s : List ℕ) where
-  abbrev Here : State → ℕ → Type 0
-  Here = At linkLimits s
-
   -- ---- what is due stands in the message, but for an end that comes too soon
 
   opening-within : (p : ℕ) → Opening s p → p < length s
@@ -61,23 +58,24 @@ module _ (s : List ℕ) where
   due-within n p (long at q marked stands far) = inl (has-lt (isName classOf) s q (long-name s q 64 far))
 
   -- nothing is due before the machine
-  none-passed : (st : State) (p : ℕ) → Here st p → (n q : ℕ) → Due s n q → q < p → ⊥
+  none-passed : (st : State) (p : ℕ) → Here s st p → (n q : ℕ) → Due s n q → q < p → ⊥
   none-passed st p here n q d less =
       let a = alive-before linkLimits s p q st here less in
-      blocked s q (a .0) (a .1) (a .2) (a .6) (a .3) (a .4) n q refl d
+      blocked s q (a .1 .from) (a .0) (a .1 .here) (a .1 .within) (a .1 .free) (a .1 .by) n q refl d
 
   -- ---- at one place
 
   -- the order, from what is not due there
   below : (k r : ℕ) → (k < r → ⊥) → r ≤ k
-  below k r h = elim (decLt k r) [ | yes less ↦ absurd (h less) | no more ↦ omega arith ]
+  below k r h = elim (decLt k r) [ yes less ↦ absurd (h less) | no more ↦ omega arith ]
 
   module _ (r p : ℕ) (most : r ≤ 4) (nine : 0 < r → Due s 9 p → ⊥) (eleven : 1 < r → Due s 11 p → ⊥) (fourteen : 2 < r → Due s 14 p → ⊥) (ten : 3 < r → Due s 10 p → ⊥) where
     ranked : (n q : ℕ) → q ≡ p → Due s n q → r ≤ rank n
     ranked n q same (dead q′ within on off) = below 0 r (λ h. nine h (subst (Due s 9) same (dead q′ within on off)))
     ranked n q same (unfinished on off) = below 0 r (λ h. nine h (subst (Due s 9) same (unfinished on off)))
     ranked n q same (level q′ open-there tag start) = below 3 r (λ h. ten h (subst (Due s 10) same (level q′ open-there tag start)))
-    ranked n q same (attribute at to marked stands space start) = below 1 r (λ h. eleven h (subst (Due s 11) same (attribute at to marked stands space start)))
+    ranked n q same (attribute at to marked stands space start) =
+        below 1 r (λ h. eleven h (subst (Due s 11) same (attribute at to marked stands space start)))
     ranked n q same (opening q′ marked open-there) = most
     ranked n q same (long at q′ marked stands far) = below 2 r (λ h. fourteen h (subst (Due s 14) same (long at q′ marked stands far)))
 
@@ -89,15 +87,17 @@ module _ (s : List ℕ) where
   no-nine p n q number same within on (opening q′ marked open-there) = omega arith
   no-nine p n q number same within on (long at q′ marked stands far) = omega arith
 
-  eleven-state : (p : ℕ) (st : State) → Here st p → (n q : ℕ) → n ≡ 11 → q ≡ p → Due s n q → (m : List ℕ) × (seen : List (List ℕ)) × (o : List (List ℕ)) × (st ≡ inTag true m seen o) × (length seen ≡ 16)
+  eleven-state : (p : ℕ) (st : State) → Here s st p → (n q : ℕ) → n ≡ 11 → q ≡ p → Due s n q
+      → (m : List ℕ) × (seen : List (List ℕ)) × (o : List (List ℕ)) × (st ≡ inTag true m seen o) × (length seen ≡ 16)
   eleven-state p st here n q number same (dead q′ inner before off) = absurd (omega arith)
   eleven-state p st here n q number same (unfinished before off) = absurd (omega arith)
   eleven-state p st here n q number same (level q′ open-there tag start) = absurd (omega arith)
-  eleven-state p st here n q number same (attribute at to marked stands space start) = tag-inverse linkLimits s p st here at 16 to marked stands space (sym same)
+  eleven-state p st here n q number same (attribute at to marked stands space start) =
+      tag-inverse linkLimits s p st here at 16 to marked stands space (sym same)
   eleven-state p st here n q number same (opening q′ marked open-there) = absurd (omega arith)
   eleven-state p st here n q number same (long at q′ marked stands far) = absurd (omega arith)
 
-  fourteen-state : (p : ℕ) (st : State) → Here st p → (n q : ℕ) → n ≡ 14 → q ≡ p → Due s n q → (g : Ground) → st ≡ ground g → ⊥
+  fourteen-state : (p : ℕ) (st : State) → Here s st p → (n q : ℕ) → n ≡ 14 → q ≡ p → Due s n q → (g : Ground) → st ≡ ground g → ⊥
   fourteen-state p st here n q number same (dead q′ inner before off) = absurd (omega arith)
   fourteen-state p st here n q number same (unfinished before off) = absurd (omega arith)
   fourteen-state p st here n q number same (level q′ open-there tag start) = absurd (omega arith)
@@ -105,7 +105,8 @@ module _ (s : List ℕ) where
   fourteen-state p st here n q number same (opening q′ marked open-there) = absurd (omega arith)
   fourteen-state p st here n q number same (long at q′ marked stands far) =
       let far-there : 64 < ends (isName classOf) s p - p = subst (λ (i : ℕ). 64 < ends (isName classOf) s i - i) same far in
-      part-inverse linkLimits s p st here at marked (subst (PartStands s at) same stands) (long-name s p 64 far-there) (lt-ltb 64 (ends (isName classOf) s p - p) far-there) .0
+      part-inverse linkLimits s p st here at marked (subst (PartStands s at) same stands) (long-name s p 64 far-there)
+      (lt-ltb 64 (ends (isName classOf) s p - p) far-there) .0
 
   ten-start : (p n q : ℕ) → n ≡ 10 → q ≡ p → Due s n q → has (isStart classOf) s (p + 1) ≡ true
   ten-start p n q number same (dead q′ inner before off) = absurd (omega arith)
@@ -120,15 +121,17 @@ module _ (s : List ℕ) where
   tag-ground : {m : List ℕ} {seen o : List (List ℕ)} {g : Ground} → ground g ≡ inTag true m seen o → ⊥
   tag-ground e = let z : _≡_ {A = ℕ} 0 1 = cc in omega arith
 
-  ranks : (st : State) (p n : ℕ) → Here st p → Cause linkLimits s st p n → (n′ q : ℕ) → q ≡ p → Due s n′ q → rank n ≤ rank n′
+  ranks : (st : State) (p n : ℕ) → Here s st p → Cause linkLimits s st p n → (n′ q : ℕ) → q ≡ p → Due s n′ q → rank n ≤ rank n′
   ranks st p n here (dies within dying) n′ q same d = omega arith
   ranks st p n here (cut out more) n′ q same d = omega arith
   ranks st p n here (crowded m seen o is start many crowd) n′ q same d =
       let on = cause-goes s st p 11 here (crowded m seen o is start many crowd) (λ e. omega arith) in
-      ranked 1 p (omega arith) (λ h. no-nine p 9 p refl refl (on .0) (on .1)) (λ h. absurd (omega arith)) (λ h. absurd (omega arith)) (λ h. absurd (omega arith)) n′ q same d
+      ranked 1 p (omega arith) (λ h. no-nine p 9 p refl refl (on .0) (on .1)) (λ h. absurd (omega arith)) (λ h. absurd (omega arith))
+      (λ h. absurd (omega arith)) n′ q same d
   ranks st p n here (longs due far next goes-on roomy part) n′ q same d =
       let on = cause-goes s st p 14 here (longs due far next goes-on roomy part) (λ e. omega arith) in
-      ranked 2 p (omega arith) (λ h. no-nine p 9 p refl refl (on .0) (on .1)) (λ h e. crowded-out e) (λ h. absurd (omega arith)) (λ h. absurd (omega arith)) n′ q same d
+      ranked 2 p (omega arith) (λ h. no-nine p 9 p refl refl (on .0) (on .1)) (λ h e. crowded-out e) (λ h. absurd (omega arith))
+      (λ h. absurd (omega arith)) n′ q same d
     where
       crowded-out : Due s 11 p → ⊥
       crowded-out e =
@@ -136,10 +139,14 @@ module _ (s : List ℕ) where
           true≢false (sym (le-leb 16 (length (x .1)) (omega (arith, x .4))) ∙ roomy true (x .0) (x .1) (x .2) (x .3))
   ranks st p n here (deep g is tag far levels) n′ q same d =
       let on = cause-goes s st p 10 here (deep g is tag far levels) (λ e. omega arith) in
-      ranked 3 p (omega arith) (λ h. no-nine p 9 p refl refl (on .0) (on .1)) (λ h e. tag-ground (sym is ∙ eleven-state p st here 11 p refl refl e .3)) (λ h e. fourteen-state p st here 14 p refl refl e g is) (λ h. absurd (omega arith)) n′ q same d
+      ranked 3 p (omega arith) (λ h. no-nine p 9 p refl refl (on .0) (on .1))
+      (λ h e. tag-ground (sym is ∙ eleven-state p st here 11 p refl refl e .3)) (λ h e. fourteen-state p st here 14 p refl refl e g is)
+      (λ h. absurd (omega arith)) n′ q same d
   ranks st p n here (opens g is tag open-there) n′ q same d =
       let on = cause-goes s st p 12 here (opens g is tag open-there) (λ e. omega arith) in
-      ranked 4 p (omega arith) (λ h. no-nine p 9 p refl refl (on .0) (on .1)) (λ h e. tag-ground (sym is ∙ eleven-state p st here 11 p refl refl e .3)) (λ h e. fourteen-state p st here 14 p refl refl e g is) (λ h e. opening-no-start s linkLimits g p open-there (ten-start p 10 p refl refl e)) n′ q same d
+      ranked 4 p (omega arith) (λ h. no-nine p 9 p refl refl (on .0) (on .1))
+      (λ h e. tag-ground (sym is ∙ eleven-state p st here 11 p refl refl e .3)) (λ h e. fourteen-state p st here 14 p refl refl e g is)
+      (λ h e. opening-no-start s linkLimits g p open-there (ten-start p 10 p refl refl e)) n′ q same d
 
   stuck-first : (n p : ℕ) → Stuck linkLimits s n p → FirstDue s n p
   stuck-first n p stuck = record { due = cause-due s (stuck .0) p n (stuck .1) (stuck .2); least = least }
@@ -173,16 +180,19 @@ module _ (s : List ℕ) where
   module _ (fits : length s ≤ 65520) where
     -- where the message is read as XML nothing is due
     whole-free : (root : Element) → documentAt classOf s linkLimits 0 ≡ whole root → NoneDue s
-    whole-free root q n p d = ⊎-elim (λ within. none-passed (ground behind) (length s) at-end n p d within) (λ last. last .1 (linkLimits, root, q)) (due-within n p d)
+    whole-free root q n p d =
+        ⊎-elim (λ within. none-passed (ground behind) (length s) at-end n p d within) (λ last. last .1 (linkLimits, root, q))
+        (due-within n p d)
       where
-        at-end : Here (ground behind) (length s)
-        at-end = subst (Outcome linkLimits s (λ r. Here (ground behind) (length s))) q (going-document linkLimits s fits)
+        at-end : Here s (ground behind) (length s)
+        at-end = subst (Outcome linkLimits s (λ r. Here s (ground behind) (length s))) q (going-document linkLimits s fits)
 
     read-none : (m : Message) → answer s ≡ whole m → NoneDue s
     read-none m q = let root = read-root m q in whole-free (root .0) (root .1)
 
     document-first : (n p : ℕ) → documentAt classOf s linkLimits 0 ≡ refused n p → FirstDue s n p
-    document-first n p q = stuck-first n p (subst (Outcome linkLimits s (λ r. Here (ground behind) (length s))) q (going-document linkLimits s fits))
+    document-first n p q =
+        stuck-first n p (subst (Outcome linkLimits s (λ r. Here s (ground behind) (length s))) q (going-document linkLimits s fits))
 
     refused-first : (n p : ℕ) → answer s ≡ refused n p → ((n ≡ 13) × (p ≡ 0) × NoneDue s) ⊎ FirstDue s n p
     refused-first n p q = go (message-refusal linkLimits s n p q)
@@ -197,17 +207,22 @@ module _ (s : List ℕ) where
         go : (r : Reading Message) → answer s ≡ r → ((m : Message) × (answer s ≡ whole m)) ⊎ (answer s ≡ refused 13 0)
         go (whole m) q = inl (m, q)
         go (refused n p) q =
-            ⊎-elim (λ k. inr (q ∙ ap (λ (i : ℕ). refused i p) (k .0) ∙ ap (refused 13) (k .1))) (λ f. absurd (none n p (f .due))) (refused-first n p q)
+            ⊎-elim (λ k. inr (q ∙ ap (λ (i : ℕ). refused i p) (k .0) ∙ ap (refused 13) (k .1))) (λ f. absurd (none n p (f .due)))
+            (refused-first n p q)
 
     -- two that are first are the same
     same-first : (n p n′ p′ : ℕ) → FirstDue s n p → FirstDue s n′ p′ → (n ≡ n′) × (p ≡ p′)
-    same-first n p n′ p′ one other = ⊎-elim (λ less. absurd (apart less)) (λ h. ⊎-elim (λ less. absurd (omega (arith, h .0))) (λ k. (number (h .1) (k .1), h .0)) (other .least n p (one .due))) (one .least n′ p′ (other .due))
+    same-first n p n′ p′ one other =
+        ⊎-elim (λ less. absurd (apart less))
+        (λ h. ⊎-elim (λ less. absurd (omega (arith, h .0))) (λ k. (number (h .1) (k .1), h .0)) (other .least n p (one .due)))
+        (one .least n′ p′ (other .due))
       where
         apart : p < p′ → ⊥
         apart less = ⊎-elim (λ more. omega arith) (λ k. omega (arith, k .0)) (other .least n p (one .due))
 
         number : rank n ≤ rank n′ → rank n′ ≤ rank n → n ≡ n′
-        number h k = let same : rank n ≡ rank n′ = omega arith in sym (ranked-back n p (one .due)) ∙ ap unrank same ∙ ranked-back n′ p′ (other .due)
+        number h k =
+            let same : rank n ≡ rank n′ = omega arith in sym (ranked-back n p (one .due)) ∙ ap unrank same ∙ ranked-back n′ p′ (other .due)
 
     due-first : (n p : ℕ) → FirstDue s n p → answer s ≡ refused n p
     due-first n p first = go (answer s) refl
@@ -215,19 +230,22 @@ module _ (s : List ℕ) where
         go : (r : Reading Message) → answer s ≡ r → answer s ≡ refused n p
         go (whole m) q = absurd (read-none m q n p (first .due))
         go (refused n′ p′) q =
-            ⊎-elim (λ k. absurd (k .2 n p (first .due))) (λ f. let same = same-first n′ p′ n p f first in q ∙ ap (λ (i : ℕ). refused i p′) (same .0) ∙ ap (refused n) (same .1)) (refused-first n′ p′ q)
+            ⊎-elim (λ k. absurd (k .2 n p (first .due)))
+            (λ f. let same = same-first n′ p′ n p f first in q ∙ ap (λ (i : ℕ). refused i p′) (same .0) ∙ ap (refused n) (same .1))
+            (refused-first n′ p′ q)
 
   too-long : 65520 < length s → answer s ≡ refused 8 0
   unfolding documentAt
   too-long far = document-refused linkLimits s 8 0 (rw (lt-ltb 65520 (length s) far))
 
-  pub answered : Answered s
+  answered : Answered s
   answered = record {
     too-long = too-long;
     due-first = due-first;
     refused-first = refused-first;
     none-due = none-due;
-    read-free = λ m q. let root = read-root m q in let fits = whole-fits linkLimits s (root .0) (root .1) in (fits, whole-free fits (root .0) (root .1));
+    read-free = λ m q. let root = read-root m q in
+        let fits = whole-fits linkLimits s (root .0) (root .1) in (fits, whole-free fits (root .0) (root .1));
   }
 
 pub earliest-wins : EarliestWins

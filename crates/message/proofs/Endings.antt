@@ -7,7 +7,7 @@ use native.Mathlib.Omega.{arith}
 use native.Mathlib.Decide.{decLt}
 use lib.ListN.{length, length-append}
 use lib.Dec.{ltb, leb, eqb}
-use borrow.Author.Tests.{eq-eqb, ne-eqb, eqb-true, eqb-false, ltb-true, ltb-false, leb-true, leb-false}
+use borrow.Author.Tests.{eq-eqb, ne-eqb, eqb-true, eqb-false, ltb-true, ltb-false, leb-true, le-leb}
 use Rattle.message.specs.Class.{classOf, isSpace}
 use Rattle.message.specs.Reading.{is}
 use Rattle.message.specs.Characters.{legal, isDigit, digitOf}
@@ -15,8 +15,8 @@ use Rattle.message.specs.Elements.{isKnown}
 use Rattle.message.specs.Readable.{endTags}
 use Rattle.message.proofs.Laws.{cond-cases, between-yes, between-above}
 use Rattle.message.proofs.Parts.{other-length}
-use Rattle.message.proofs.Automaton.{Test, exact, exactly, secondThree, thirdThree, Ground, first, before, behind, inside, State, ground, opened, expect, blanks, declared, versionQuote, encodingQuote, versioned, encodingName, note, second, ampersand, ampersandA, hash, firstDigit, number, name, colon, inTag, slash, attribute, attributeColon, quote, value, close, goes, expecting, after, closing, declaredEnd, base, numbered, step, steps}
-use Rattle.message.proofs.Ways.{steps-on}
+use Rattle.message.proofs.Automaton.{Test, exact, exactly, secondThree, thirdThree, Ground, first, before, behind, inside, State, ground, opened, expect, blanks, declared, versionQuote, encodingQuote, versioned, encodingName, note, second, ampersand, ampersandA, hash, firstDigit, number, name, colon, inTag, slash, attribute, attributeColon, quote, value, close, goes, expecting, after, closing, declaredEnd, base, step, steps}
+use Rattle.message.proofs.Ways.{steps-on, numbered-small}
 
 -- ---- the bytes
 
@@ -120,10 +120,12 @@ not-known : (a : List ℕ) (seen : List (List ℕ)) → total seen < length a �
 not-known a [] h = refl
 not-known a (n ∷ seen) h = rw (sym (other-length a n (λ e. absurd (omega arith)))) (not-known a seen (omega arith))
 
-ends-attribute : (m : ℕ) (t : Bool) (a n : List ℕ) (seen o : List (List ℕ)) → total seen < length a + m → Ends (attribute t a n seen o) (longer m o)
+ends-attribute : (m : ℕ) (t : Bool) (a n : List ℕ) (seen o : List (List ℕ)) → total seen < length a + m
+    → Ends (attribute t a n seen o) (longer m o)
 unfolding steps classOf
 ends-attribute zero t a n seen o h =
-    on (attribute t a n seen o) {next = quote n (a ∷ seen) o} 61 (34 ∷ 34 ∷ 47 ∷ 62 ∷ endTags o) (rw (not-known a seen (omega arith))) (ends-after o)
+    on (attribute t a n seen o) {next = quote n (a ∷ seen) o} 61 (34 ∷ 34 ∷ 47 ∷ 62 ∷ endTags o) (rw (not-known a seen (omega arith)))
+    (ends-after o)
 ends-attribute (suc m) t a n seen o h = ends-attribute m t (a ++ (97 ∷ [])) n seen o (omega (arith, length-append a (97 ∷ [])))
 
 -- ---- a number
@@ -152,17 +154,14 @@ not-legal n low high e = (
     clash : legal n ≡ true → ⊥
     clash q = let z : _≡_ {A = ℕ} 0 1 = cc in omega arith
 
-numbered-goes : (hex : Bool) (n : ℕ) (t : Bool) (e : leb n 1114111 ≡ t) (k : State) → n ≤ 1114111
-    → (small : leb n 1114111 ≡ true) × (numbered hex n t e k ≡ goes (number hex n small k))
-numbered-goes hex n true e k h = (e, refl)
-numbered-goes hex n false e k h = absurd (omega (arith, leb-false n 1114111 e))
-
 module _ (k : State) (u : List ℕ) where
   -- with one more digit
   ends-digit : (hex : Bool) (n d : ℕ) (small : leb n 1114111 ≡ true) → isDigit (base hex) d ≡ true → n * base hex + digitOf d ≤ 1114111
-      → ((e : leb (n * base hex + digitOf d) 1114111 ≡ true) → Ends (number hex (n * base hex + digitOf d) e k) u) → Ends (number hex n small k) (d ∷ u)
+      → ((e : leb (n * base hex + digitOf d) 1114111 ≡ true) → Ends (number hex (n * base hex + digitOf d) e k) u)
+      → Ends (number hex n small k) (d ∷ u)
   ends-digit hex n d small is-digit h more =
-      let went = numbered-goes hex (n * base hex + digitOf d) (leb (n * base hex + digitOf d) 1114111) refl k h in
+      let went = numbered-small hex (n * base hex + digitOf d) k (leb (n * base hex + digitOf d) 1114111) refl
+      (le-leb (n * base hex + digitOf d) 1114111 h) in
       on (number hex n small k) d u (rw is-digit (went .1)) (more (went .0))
 
   ends-legal : (hex : Bool) (n : ℕ) (small : leb n 1114111 ≡ true) → legal n ≡ true → Ends k u → Ends (number hex n small k) (59 ∷ u)
@@ -256,5 +255,6 @@ finishes (slash o) = ends-after o
 finishes (attribute t a n seen o) = ends-attribute (suc (total seen)) t a n seen o (omega arith)
 finishes (attributeColon a n seen o) = ends-attribute (total seen) true (a ++ (97 ∷ [])) n seen o (omega (arith, length-append a (97 ∷ [])))
 finishes (quote n seen o) = ends-after o
-finishes (value q n seen o) = on (value q n seen o) {next = inTag false n seen o} q (47 ∷ 62 ∷ endTags o) (rw (eq-eqb q q refl)) (ends-after o)
+finishes (value q n seen o) =
+    on (value q n seen o) {next = inTag false n seen o} q (47 ∷ 62 ∷ endTags o) (rw (eq-eqb q q refl)) (ends-after o)
 finishes (close y w fresh o) = ends-close (y ∷ w) fresh o (endTags o) (ends-after o)

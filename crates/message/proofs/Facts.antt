@@ -1,15 +1,17 @@
--- What is known of a start tag, and of an element, that was read whole: its name is what is read again where it begins, and each element inside is what is
--- read again at its place. Assumes nothing.
+-- What is known of a start tag, and of an element, that was read whole: its name is what is read again where it begins, and each element
+-- inside is what is read again at its place. Assumes nothing.
 use Prim.Native.Nat.{ℕ, zero, suc, _+_, _-_}
 use mathlib.Core.Path.{_≡_, refl, sym, _∙_, ap, subst}
+use mathlib.Core.Logic.{_⊎_, inl, inr}
 use mathlib.Core.Bool.{Bool, true, false, cond}
 use mathlib.Core.List.{List, []}
 use native.Mathlib.Omega.{arith}
 use lib.ListN.{length}
 use lib.Dec.{ltb, eqb}
+use Rattle.laws.proofs.Tests.{true-false}
 use Rattle.message.specs.Markup.{aroundAt}
 use Rattle.message.specs.Class.{isStart}
-use Rattle.message.specs.Reading.{Reading, _>>=_, is, has, one}
+use Rattle.message.specs.Reading.{Reading, _>>=_, isWhole, is, has, one}
 use Rattle.message.specs.Reading.Reading.{whole, refused}
 use Rattle.message.specs.Names.{Named, nameAt}
 use Rattle.message.proofs.Laws.{one-has}
@@ -19,14 +21,26 @@ use Rattle.message.specs.Elements.Elements.{none, more}
 use Rattle.message.proofs.Trees.{whole-same, unread}
 
 -- two readings that came out whole together each did
-pub then-whole : {A B : Type 0} (next : A → Reading B) (a : Reading A) (y : B) → (a >>= next) ≡ whole y → (x : A) × (a ≡ whole x) × (next x ≡ whole y)
+pub then-whole : {A B : Type 0} (next : A → Reading B) (a : Reading A) (y : B) → (a >>= next) ≡ whole y
+    → (x : A) × (a ≡ whole x) × (next x ≡ whole y)
 then-whole next (whole x) y q = (x, refl, q)
 then-whole next (refused n p) y q = unread q
 
+pub whole-is : {A : Type 0} (r : Reading A) → isWhole r ≡ true → (x : A) × (r ≡ whole x)
+whole-is (whole x) e = (x, refl)
+whole-is (refused n p) e = absurd (true-false e refl)
+
 -- two readings that go on alike after what was read
-pub then-same : {A B : Type 0} (next next′ : A → Reading B) (a : Reading A) → ((x : A) → a ≡ whole x → next x ≡ next′ x) → (a >>= next) ≡ (a >>= next′)
+pub then-same : {A B : Type 0} (next next′ : A → Reading B) (a : Reading A) → ((x : A) → a ≡ whole x → next x ≡ next′ x)
+    → (a >>= next) ≡ (a >>= next′)
 then-same next next′ (whole x) g = g x refl
 then-same next next′ (refused n p) g = refl
+
+-- a refusal of two readings is that of the first or of the second
+pub then-refused : {A B : Type 0} (next : A → Reading B) (a : Reading A) {n p : ℕ} → (a >>= next) ≡ refused n p
+    → (a ≡ refused n p) ⊎ ((x : A) × (a ≡ whole x) × (next x ≡ refused n p))
+then-refused next (whole x) q = inr (x, refl, q)
+then-refused next (refused n′ p′) {n} {p} q = let y : n′ ≡ n = cc in let z : p′ ≡ p = cc in inl (rw (y, z))
 
 -- a refusal goes through what is made of a reading
 pub refused-then : {A B : Type 0} (a : Reading A) (f : A → B) {n p : ℕ} → (a >>= (λ x. whole (f x))) ≡ refused n p → a ≡ refused n p
@@ -40,18 +54,22 @@ module _ (s : List ℕ) (b : ℕ) (n : Named) (at : ℕ) (P : Start → Type 0) 
   abbrev ended : ℕ → Bool → Start
   ended i t = record { begin = b; name = n; from = i; empty = t }
 
-  pub end-cases : (has (is 47) s at ≡ true → has (is 62) s (at + 1) ≡ true → P (ended (at + 1 + 1) true)) → (has (is 62) s at ≡ true → P (ended (at + 1) false))
+  pub end-cases : (has (is 47) s at ≡ true → has (is 62) s (at + 1) ≡ true → P (ended (at + 1 + 1) true))
+      → (has (is 62) s at ≡ true → P (ended (at + 1) false))
       → (st : Start) → startEndAt s b n at ≡ whole st → P st
   unfolding startEndAt
   end-cases emptied opened st q = go (has (is 47) s at) refl q
     where
-      closed : (i : ℕ) (t : Bool) → (has (is 62) s i ≡ true → P (ended (i + 1) t)) → (one (is 62) s i >>= (λ e. whole (ended e t))) ≡ whole st → P st
+      closed : (i : ℕ) (t : Bool) → (has (is 62) s i ≡ true → P (ended (i + 1) t))
+          → (one (is 62) s i >>= (λ e. whole (ended e t))) ≡ whole st → P st
       closed i t f h =
           let x = then-whole (λ e. whole (ended e t)) (one (is 62) s i) st h in
           let o = one-has (is 62) s i (x .0) (x .1) in
           subst P (whole-same (ap (λ (e : ℕ). whole (ended e t)) (sym (o .1)) ∙ x .2)) (f (o .0))
 
-      go : (t : Bool) → has (is 47) s at ≡ t → cond t (one (is 62) s (at + 1) >>= (λ i. whole (ended i true))) (one (is 62) s at >>= (λ i. whole (ended i false))) ≡ whole st → P st
+      go : (t : Bool) → has (is 47) s at ≡ t
+          → cond t (one (is 62) s (at + 1) >>= (λ i. whole (ended i true))) (one (is 62) s at >>= (λ i. whole (ended i false))) ≡ whole st
+          → P st
       go true e h = closed (at + 1) true (emptied e) h
       go false e h = closed at false opened h
 
@@ -72,7 +90,8 @@ module _ (class : ℕ → ℕ) (s : List ℕ) (l : Limits) where
       let x = then-whole _ (one (is 60) s at) st q in
       let y = then-whole _ (nameAt class (l .part) s (x .0)) st (x .2) in
       let z = then-whole (startEndAt s (x .0) (y .0)) (attributesAt class s l (length s) [] (y .0 .end)) st (y .2) in
-      let w = end-cases s (x .0) (y .0) (z .0) (λ st. (st .begin ≡ x .0) × (st .name ≡ y .0)) (λ t u. (refl, refl)) (λ t. (refl, refl)) st (z .2) in
+      let w = end-cases s (x .0) (y .0) (z .0) (λ st. (st .begin ≡ x .0) × (st .name ≡ y .0)) (λ t u. (refl, refl))
+      (λ t. (refl, refl)) st (z .2) in
       record {
         begins = w .0 ∙ one-has (is 60) s at (x .0) (x .1) .1;
         named = ap (nameAt class (l .part) s) (w .0) ∙ (y .1 ∙ ap whole (sym (w .1)));
@@ -110,7 +129,8 @@ module _ (class : ℕ → ℕ) (s : List ℕ) (l : Limits) where
             let x = then-whole (λ e. whole (closed stop e)) (endTagAt class s l (st .begin) (st .name) (stop + 2)) c h in
             subst (P at) (whole-same (x .2)) (end at stop (x .0) f t (x .1))
         go further stop f false t h =
-            let x = then-whole (λ e. contentAt class s l fuel child st (e .tag .end) >>= (λ rest. whole (nested e rest))) (child stop) c h in
+            let x = then-whole (λ e. contentAt class s l fuel child st (e .tag .end) >>= (λ rest. whole (nested e rest)))
+            (child stop) c h in
             let y = then-whole (λ rest. whole (nested (x .0) rest)) (contentAt class s l fuel child st (x .0 .tag .end)) c (x .2) in
             subst (P at) (whole-same (y .2)) (keeps at stop (x .0) (y .0) f (x .1) (further (x .0 .tag .end) (y .0) (y .1)))
 
@@ -127,7 +147,8 @@ module _ (class : ℕ → ℕ) (s : List ℕ) (l : Limits) where
     unfolding restAt
     rest-cases P f g e q = go (st .empty) refl q
       where
-        go : (t : Bool) → st .empty ≡ t → cond t (whole emptied) (contentAt class s l (length s) child st (st .from) >>= (λ c. whole (filled c))) ≡ whole e → P e
+        go : (t : Bool) → st .empty ≡ t
+            → cond t (whole emptied) (contentAt class s l (length s) child st (st .from) >>= (λ c. whole (filled c))) ≡ whole e → P e
         go true t h = subst P (whole-same h) (f t)
         go false t h =
             let x = then-whole (λ c. whole (filled c)) (contentAt class s l (length s) child st (st .from)) e h in
@@ -151,13 +172,15 @@ module _ (class : ℕ → ℕ) (s : List ℕ) (l : Limits) where
     pub attributed : Attributed (e .tag .name)
     pub inner : Reads child (e .inside)
 
-  rest-stands : (child : ℕ → Reading Element) → BeginsAt child → (at : ℕ) (st : Start) → Starts at st → (e : Element) → restAt class s l child st ≡ whole e → Stands child at e
+  rest-stands : (child : ℕ → Reading Element) → BeginsAt child → (at : ℕ) (st : Start) → Starts at st → (e : Element)
+      → restAt class s l child st ≡ whole e → Stands child at e
   rest-stands child begins at st so =
       rest-cases child st (Stands child at)
       (λ t. record { begins = so .begins; named = so .named; attributed = so .attributed; inner = tt })
       (λ c q. record { begins = so .begins; named = so .named; attributed = so .attributed; inner = all c q })
     where
-      again : (from stop : ℕ) (e : Element) (c : Content) → freeAt class s (length s) from ≡ whole stop → child stop ≡ whole e → Reads child (c .inside)
+      again : (from stop : ℕ) (e : Element) (c : Content) → freeAt class s (length s) from ≡ whole stop → child stop ≡ whole e
+          → Reads child (c .inside)
           → (child (e .tag .begin - 1) ≡ whole e) × Reads child (c .inside)
       again from stop e c f h others = (ap child (omega (arith, begins stop e h)) ∙ h, others)
 
@@ -188,7 +211,8 @@ module _ (class : ℕ → ℕ) (s : List ℕ) (l : Limits) where
   -- ---- a message
 
   -- the root of a message that was read is read at some place with all levels
-  pub document-element : (at : ℕ) (e : Element) → documentAt class s l at ≡ whole e → (begin : ℕ) × (elementAt class s l (l .levels) begin ≡ whole e)
+  pub document-element : (at : ℕ) (e : Element) → documentAt class s l at ≡ whole e
+      → (begin : ℕ) × (elementAt class s l (l .levels) begin ≡ whole e)
   unfolding documentAt rootAt
   document-element at e q = go (ltb (l .bytes) (length s)) q
     where
@@ -200,12 +224,14 @@ module _ (class : ℕ → ℕ) (s : List ℕ) (l : Limits) where
           let w = then-whole _ (endAt s (z .0)) e (z .2) in
           (x .0, y .1 ∙ w .2)
 
-      go : (t : Bool) → cond t (refused 8 0) (cond (eqb at 0) (declaredOf class s) (whole at) >>= rootAt class s l) ≡ whole e → (begin : ℕ) × (elementAt class s l (l .levels) begin ≡ whole e)
+      go : (t : Bool) → cond t (refused 8 0) (cond (eqb at 0) (declaredOf class s) (whole at) >>= rootAt class s l) ≡ whole e
+          → (begin : ℕ) × (elementAt class s l (l .levels) begin ≡ whole e)
       go true h = unread h
       go false h = let x = then-whole (rootAt class s l) (cond (eqb at 0) (declaredOf class s) (whole at)) e h in root (x .0) (x .2)
 
   -- and is what is read again there
-  pub document-root : (levels at : ℕ) (e : Element) → l .levels ≡ suc levels → documentAt class s l at ≡ whole e → elementAt class s l (suc levels) (e .tag .begin - 1) ≡ whole e
+  pub document-root : (levels at : ℕ) (e : Element) → l .levels ≡ suc levels → documentAt class s l at ≡ whole e
+      → elementAt class s l (suc levels) (e .tag .begin - 1) ≡ whole e
   document-root levels at e is-levels q =
       let x = document-element at e q in
       let reads : elementAt class s l (suc levels) (x .0) ≡ whole e = ap (λ (d : ℕ). elementAt class s l d (x .0)) (sym is-levels) ∙ x .1 in

@@ -1,44 +1,29 @@
 -- The machine reads the declaration as `declarationAt` does. Assumes nothing.
 use Prim.Native.Nat.{ℕ, _+_, _-_, _<_, _≤_}
-use mathlib.Core.Path.{_≡_, refl, sym, _∙_, ap, subst}
-use mathlib.Core.Bool.{Bool, true, false, cond, _&&_, true≢false}
+use mathlib.Core.Path.{_≡_, refl, sym, _∙_, ap}
+use mathlib.Core.Bool.{Bool, true, false, cond, _&&_, true≢false, and-false}
 use mathlib.Core.List.{List, [], _∷_}
 use native.Mathlib.Omega.{arith}
 use lib.ListN.{length}
-use lib.Dec.{ltb, leb, eqb}
+use lib.Dec.{leb}
 use borrow.Author.Tests.{lt-ltb, le-leb}
 use Rattle.message.specs.Class.{classOf, isStart, isSpace}
-use Rattle.message.specs.Reading.{Reading, _>>=_, isWhole, is, byteAt, has, one, ends, wordAt, isQuote, openedAt, closedAt}
-use Rattle.message.specs.Reading.Reading.{whole, refused}
+use Rattle.message.specs.Reading.{_>>=_, isWhole, is, byteAt, has, one, ends, wordAt, openedAt, closedAt}
+use Rattle.message.specs.Reading.Reading.{whole}
 use Rattle.message.specs.Markup as markup
 use Rattle.message.specs.Markup.{declares, utf8At, encodingAt, declarationAt}
-use Rattle.message.specs.Elements.{declaredOf}
 use Rattle.message.specs.Limits.{Limits}
-use Rattle.message.proofs.Laws.{cond-cases, has-in, has-lt, has-byte, one-yes, one-no, one-has, ends-more, ends-stop, both-first, both-second}
-use Rattle.message.proofs.Facts.{then-whole}
-use Rattle.message.proofs.Automaton.{exact, exactly, first, before, State, ground, opened, expect, blanks, declared, versionQuote, encodingQuote, versioned, encodingName, Next, dead, goes, step, expecting, solid-equals, solid-question, solid-v, equals, versionWord, encodingWord, declaredEnd}
+use Rattle.message.proofs.Laws.{cond-cases, has-lt, has-byte, one-yes, one-no, ends-more, ends-stop, both-first, both-second, fails-byte}
+use Rattle.message.proofs.Bytes.{question-no-start, solid-question, solid-v}
+use Rattle.message.proofs.Runs.{ends-fails, byte-is, has-known}
+use Rattle.message.proofs.Facts.{whole-is}
+use Rattle.message.proofs.Words.{word-first, word-ends}
+use Rattle.message.proofs.Automaton.{exact, exactly, first, before, State, ground, opened, expect, declared, versionQuote, encodingQuote, versioned, encodingName, equals, encodingWord, declaredEnd}
 use Rattle.message.proofs.Dues.{due, At}
-use Rattle.message.proofs.Going.{Stuck, Outcome, outcome-then, outcome-as, outcome-one, outcome-expect, outcome-word, at-has, at-ends}
-use Rattle.message.proofs.Acting.{ends-fails, fails-byte, stuck-here, Acts, acts-at}
+use Rattle.message.proofs.Going.{Outcome, outcome-then, outcome-as, outcome-one, outcome-expect, outcome-word, at-has, at-ends, stuck-here}
+use Rattle.message.proofs.Acting.{acts-at}
 use Rattle.message.proofs.GoingQuotes.{Quoting, Opened, going-opened, going-blanks-word}
-use Rattle.message.proofs.GoingMarkup.{other-byte, byte-test, and-none}
 use Rattle.message.proofs.Ways.{at-within}
-
--- the first byte of a word that stands there, and the rest
-pub word-first : (s : List ℕ) (b : ℕ) (w : List ℕ) (i e : ℕ) → wordAt (b ∷ w) s i ≡ whole e → (has (is b) s i ≡ true) × (wordAt w s (i + 1) ≡ whole e)
-unfolding wordAt
-word-first s b w i e q =
-    let x = then-whole (wordAt w s) (one (is b) s i) e q in
-    let o = one-has (is b) s i (x .0) (x .1) in
-    (o .0, ap (wordAt w s) (sym (o .1)) ∙ x .2)
-
-pub whole-is : {A : Type 0} (r : Reading A) → isWhole r ≡ true → (x : A) × (r ≡ whole x)
-whole-is (whole x) e = (x, refl)
-whole-is (refused n p) e = absurd (true≢false (sym e))
-
-pub question-no-start : isStart classOf 63 ≡ false
-unfolding classOf
-question-no-start = refl
 
 module _ (l : Limits) (s : List ℕ) where
   -- ---- up to the version's word
@@ -54,22 +39,29 @@ module _ (l : Limits) (s : List ℕ) where
         let c = word-first s 120 (109 ∷ 108 ∷ []) 2 (spells .0) (b .1) in
         let d = word-first s 109 (108 ∷ []) 3 (spells .0) (c .1) in
         let e = word-first s 108 [] 4 (spells .0) (d .1) in
-        let free : due l s (ground first) 0 ≡ false = rw (a .0, other-byte s 63 33 1 refl (b .0), b .0, declaring, byte-test s 63 1 (isStart classOf) question-no-start (b .0)) (and-none (leb (l .levels) 0 && true)) in
-        let free′ : due l s (opened first) 1 ≡ false = rw (byte-test s 63 1 (isStart classOf) question-no-start (b .0)) in
+        let free : due l s (ground first) 0 ≡ false = rw (
+          a .0,
+          has-known 63 s 1 (b .0) (is 33),
+          b .0,
+          declaring,
+          has-known 63 s 1 (b .0) (isStart classOf) ∙ question-no-start,
+        ) (and-false (leb (l .levels) 0 && true)) in
+        let free′ : due l s (opened first) 1 ≡ false = rw (has-known 63 s 1 (b .0) (isStart classOf) ∙ question-no-start) in
         let at-1 : At l s (opened first) 1 = at-has l s (is 60) 0 here (a .0) free (rw (has-byte (is 60) s 0 (a .0))) in
-        let at-2 : At l s (expect (exact 120) (exactly (109 ∷ 108 ∷ [])) declared) 2 = at-has l s (is 63) 1 at-1 (b .0) free′ (rw (other 63 33 1 refl (b .0), has-byte (is 63) s 1 (b .0))) in
-        let at-3 : At l s (expect (exact 109) (exactly (108 ∷ [])) declared) 3 = at-has l s (is 120) 2 at-2 (c .0) refl (rw (has-byte (is 120) s 2 (c .0))) in
+        let at-2 : At l s (expect (exact 120) (exactly (109 ∷ 108 ∷ [])) declared) 2 =
+        at-has l s (is 63) 1 at-1 (b .0) free′ (rw (ap (is 33) (byte-is 63 s 1 (b .0)), has-byte (is 63) s 1 (b .0))) in
+        let at-3 : At l s (expect (exact 109) (exactly (108 ∷ [])) declared) 3 =
+        at-has l s (is 120) 2 at-2 (c .0) refl (rw (has-byte (is 120) s 2 (c .0))) in
         let at-4 : At l s (expect (exact 108) [] declared) 4 = at-has l s (is 109) 3 at-3 (d .0) refl (rw (has-byte (is 109) s 3 (d .0))) in
         at-has l s (is 108) 4 at-4 (e .0) refl (rw (has-byte (is 108) s 4 (e .0)))
-      where
-        other : (b c i : ℕ) → eqb b c ≡ false → has (is b) s i ≡ true → is c (byteAt s i) ≡ false
-        other b c i differ h = fails-byte (is c) s i (has-lt (is b) s i h) (other-byte s b c i differ h)
 
     going-version : Outcome l s (λ e. At l s (equals versionQuote) e) (wordAt markup.version s (ends (isSpace classOf) s 5))
     going-version =
-        let space : has (isSpace classOf) s 5 ≡ true = both-second (isWhole (wordAt markup.xml s 0)) (has (isSpace classOf) s 5) declaring in
+        let space : has (isSpace classOf) s 5 ≡ true =
+        both-second (isWhole (wordAt markup.xml s 0)) (has (isSpace classOf) s 5) declaring in
         rw (ends-more (isSpace classOf) s 5 space)
-        (going-blanks-word l s 118 solid-v (101 ∷ 114 ∷ 115 ∷ 105 ∷ 111 ∷ 110 ∷ []) [] (equals versionQuote) 6 (at-has l s (isSpace classOf) 5 at-declared space refl (rw (has-byte (isSpace classOf) s 5 space))))
+        (going-blanks-word l s 118 solid-v (101 ∷ 114 ∷ 115 ∷ 105 ∷ 111 ∷ 110 ∷ []) [] (equals versionQuote) 6
+        (at-has l s (isSpace classOf) 5 at-declared space refl (rw (has-byte (isSpace classOf) s 5 space))))
 
   -- ---- quotation marks
 
@@ -86,17 +78,13 @@ module _ (l : Limits) (s : List ℕ) where
   encodingQuotes = record { state = encodingQuote; next = encodingName; does = λ x. refl; more = refl; free = λ i. refl }
 
   -- the quotation mark that opened a value ends it
-  going-closed : (from to : ℕ) (k : State) → 0 < from → At l s (expect (exact (byteAt s (from - 1))) [] k) to → from ≤ to → Outcome l s (λ e. At l s k e) (closedAt s from to)
+  going-closed : (from to : ℕ) (k : State) → 0 < from → At l s (expect (exact (byteAt s (from - 1))) [] k) to → from ≤ to
+      → Outcome l s (λ e. At l s k e) (closedAt s from to)
   unfolding closedAt
   going-closed from to k some here order =
       rw (lt-ltb 0 from some, le-leb from (length s) (omega (arith, at-within l s to _ here)))
-      (outcome-as l s _ _ (one (is (byteAt s (from - 1))) s to) (outcome-expect l s (byteAt s (from - 1)) [] k to here) (λ e q h. h .0))
-
-  -- words end behind where they begin
-  word-on : (w : List ℕ) (i e : ℕ) → wordAt w s i ≡ whole e → i ≤ e
-  unfolding wordAt
-  word-on [] i e q = let z : i ≡ e = cc in omega arith
-  word-on (b ∷ w) i e q = let x = word-first s b w i e q in omega (arith, word-on w (i + 1) e (x .1))
+      (outcome-as l s _ _ (one (is (byteAt s (from - 1))) s to) (outcome-expect l s (exact (byteAt s (from - 1))) [] k to here)
+      (λ e q h. h .0))
 
   -- ---- the encoding
 
@@ -105,19 +93,21 @@ module _ (l : Limits) (s : List ℕ) where
   utf8-on from to q = go (has (is 117) s from) q
     where
       go : (t : Bool) → cond t (wordAt markup.lowerUtf8 s from) (wordAt markup.upperUtf8 s from) ≡ whole to → from ≤ to
-      go true r = word-on markup.lowerUtf8 from to r
-      go false r = word-on markup.upperUtf8 from to r
+      go true r = omega (arith, word-ends s markup.lowerUtf8 from to r)
+      go false r = omega (arith, word-ends s markup.upperUtf8 from to r)
 
   going-utf8 : (q from : ℕ) → At l s (encodingName q) from → Outcome l s (λ e. At l s (expect (exact q) [] declaredEnd) e) (utf8At s from)
   unfolding utf8At wordAt
   going-utf8 q from here =
       cond-cases (Outcome l s (λ e. At l s (expect (exact q) [] declaredEnd) e)) (has (is 117) s from)
       (λ h. outcome-then l s _ _ _ (one (is 117) s from)
-      (outcome-one l s (expect (exact 116) (exactly (102 ∷ 45 ∷ 56 ∷ q ∷ [])) declaredEnd) (is 117) from here refl (λ t. refl) (λ t. rw (has-byte (is 117) s from t)) (λ within t. absurd (true≢false (sym h ∙ t))))
+      (outcome-one l s (expect (exact 116) (exactly (102 ∷ 45 ∷ 56 ∷ q ∷ [])) declaredEnd) (is 117) from here refl (λ t. refl)
+      (λ t. rw (has-byte (is 117) s from t)) (λ within t. absurd (true≢false (sym h ∙ t))))
       (λ e r at-e. outcome-word l s (116 ∷ 102 ∷ 45 ∷ 56 ∷ []) (exact q ∷ []) declaredEnd e (at-e .0)))
       (λ h. outcome-then l s _ _ _ (one (is 85) s from)
       (outcome-one l s (expect (exact 84) (exactly (70 ∷ 45 ∷ 56 ∷ q ∷ [])) declaredEnd) (is 85) from here refl (λ t. refl)
-      (λ t. rw (fails-byte (is 117) s from (has-lt (is 85) s from t) h, has-byte (is 85) s from t)) (λ within t. rw (fails-byte (is 117) s from within h, fails-byte (is 85) s from within t)))
+      (λ t. rw (fails-byte (is 117) s from (has-lt (is 85) s from t) h, has-byte (is 85) s from t))
+      (λ within t. rw (fails-byte (is 117) s from within h, fails-byte (is 85) s from within t)))
       (λ e r at-e. outcome-word l s (84 ∷ 70 ∷ 45 ∷ 56 ∷ []) (exact q ∷ []) declaredEnd e (at-e .0)))
 
   -- behind the encoding's word
@@ -125,9 +115,11 @@ module _ (l : Limits) (s : List ℕ) where
       (openedAt classOf s named >>= (λ from. utf8At s from >>= (λ to. closedAt s from to >>= (λ done. wordAt markup.closing s (ends (isSpace classOf) s done)))))
   going-encoded named here =
       let acts = acts-at l s (equals encodingQuote) named here refl refl in
-      outcome-then l s (Opened l s encodingQuotes named acts) _ _ (openedAt classOf s named) (going-opened l s encodingQuotes named acts) (λ from q opened.
+      outcome-then l s (Opened l s encodingQuotes named acts) _ _ (openedAt classOf s named) (going-opened l s encodingQuotes named acts)
+      (λ from q opened.
       outcome-then l s _ _ _ (utf8At s from) (going-utf8 (byteAt s (from - 1)) from (opened .here)) (λ to r at-to.
-      outcome-then l s _ _ _ (closedAt s from to) (going-closed from to declaredEnd (opened .some) at-to (utf8-on from to r)) (λ done t at-done.
+      outcome-then l s _ _ _ (closedAt s from to) (going-closed from to declaredEnd (opened .some) at-to (utf8-on from to r))
+      (λ done t at-done.
       going-blanks-word l s 63 solid-question (62 ∷ []) [] (ground before) done at-done)))
 
   -- ---- behind the version
@@ -142,11 +134,12 @@ module _ (l : Limits) (s : List ℕ) where
     spaced : has (isSpace classOf) s i ≡ true → At l s (versioned true) stop
     spaced h =
         rw (ends-more (isSpace classOf) s i h)
-        (at-ends l s (isSpace classOf) (λ j t. refl) (λ x t. rw t) (i + 1) (at-has l s (isSpace classOf) i here h refl (rw (has-byte (isSpace classOf) s i h))))
+        (at-ends l s (isSpace classOf) (λ j t. refl) (λ x t. rw t) (i + 1)
+        (at-has l s (isSpace classOf) i here h refl (rw (has-byte (isSpace classOf) s i h))))
 
     -- with white space or without
-    either : (b : Bool) × At l s (versioned b) stop
-    either = go (has (isSpace classOf) s i) refl
+    spaced-or-not : (b : Bool) × At l s (versioned b) stop
+    spaced-or-not = go (has (isSpace classOf) s i) refl
       where
         go : (t : Bool) → has (isSpace classOf) s i ≡ t → (b : Bool) × At l s (versioned b) stop
         go true h = (true, spaced h)
@@ -156,7 +149,8 @@ module _ (l : Limits) (s : List ℕ) where
     unfolding wordAt
     going-end h =
         rw (one-yes (is 63) s stop h)
-        (outcome-word l s (62 ∷ []) [] (ground before) (stop + 1) (at-has l s (is 63) stop (either .1) h refl (rw (solid (has-lt (is 63) s stop h), has-byte (is 63) s stop h))))
+        (outcome-word l s (62 ∷ []) [] (ground before) (stop + 1)
+        (at-has l s (is 63) stop (spaced-or-not .1) h refl (rw (solid (has-lt (is 63) s stop h), has-byte (is 63) s stop h))))
 
     module _ (no-end : has (is 63) s stop ≡ false) where
       going-word : At l s (versioned true) stop → Outcome l s (λ e. At l s (equals encodingQuote) e) (wordAt markup.encoding s stop)
@@ -164,7 +158,8 @@ module _ (l : Limits) (s : List ℕ) where
       going-word at-stop =
           outcome-then l s _ _ _ (one (is 101) s stop)
           (outcome-one l s encodingWord (is 101) stop at-stop refl (λ t. refl)
-          (λ t. let within : stop < length s = has-lt (is 101) s stop t in rw (solid within, fails-byte (is 63) s stop within no-end, has-byte (is 101) s stop t))
+          (λ t. let within : stop < length s = has-lt (is 101) s stop t in
+          rw (solid within, fails-byte (is 63) s stop within no-end, has-byte (is 101) s stop t))
           (λ within t. rw (solid within, fails-byte (is 63) s stop within no-end, fails-byte (is 101) s stop within t)))
           (λ e q at-e. outcome-word l s (110 ∷ 99 ∷ 111 ∷ 100 ∷ 105 ∷ 110 ∷ 103 ∷ []) [] (equals encodingQuote) e (at-e .0))
 
@@ -173,20 +168,29 @@ module _ (l : Limits) (s : List ℕ) where
       going-encoding = go (has (isSpace classOf) s i) refl
         where
           go : (t : Bool) → has (isSpace classOf) s i ≡ t → Outcome l s (λ e. At l s (ground before) e) (encodingAt classOf s i)
-          go true h = rw (one-yes (isSpace classOf) s i h) (outcome-then l s _ _ _ (wordAt markup.encoding s stop) (going-word (spaced h)) (λ e q at-e. going-encoded e at-e))
+          go true h =
+              rw (one-yes (isSpace classOf) s i h)
+              (outcome-then l s _ _ _ (wordAt markup.encoding s stop) (going-word (spaced h)) (λ e q at-e. going-encoded e at-e))
           go false h =
               let same : stop ≡ i = ends-stop (isSpace classOf) s i h in
               rw (one-no (isSpace classOf) s i h)
-              (stuck-here l s here refl (λ within. rw (fails-byte (isSpace classOf) s i within h, fails-byte (is 63) s i within (ap (has (is 63) s) (sym same) ∙ no-end))))
+              (stuck-here l s here refl
+              (λ within. rw (fails-byte (isSpace classOf) s i within h, fails-byte (is 63) s i within (ap (has (is 63) s) (sym same) ∙ no-end))))
 
   -- ---- the whole
 
-  pub going-declaration : At l s (ground first) 0 → declares classOf s ≡ true → Outcome l s (λ e. At l s (ground before) e) (declarationAt classOf s 5)
+  pub going-declaration : At l s (ground first) 0 → declares classOf s ≡ true
+      → Outcome l s (λ e. At l s (ground before) e) (declarationAt classOf s 5)
   unfolding declarationAt
   going-declaration here declaring =
       outcome-then l s _ _ _ (wordAt markup.version s (ends (isSpace classOf) s 5)) (going-version here declaring) (λ named q at-named.
       let acts = acts-at l s (equals versionQuote) named at-named refl refl in
-      outcome-then l s (Opened l s versionQuotes named acts) _ _ (openedAt classOf s named) (going-opened l s versionQuotes named acts) (λ from r opened.
-      outcome-then l s _ _ _ (wordAt markup.oneDotZero s from) (outcome-word l s markup.oneDotZero (exact (byteAt s (from - 1)) ∷ []) (versioned false) from (opened .here)) (λ to t at-to.
-      outcome-then l s _ _ _ (closedAt s from to) (going-closed from to (versioned false) (opened .some) at-to (word-on markup.oneDotZero from to t)) (λ done u at-done.
-      cond-cases (Outcome l s (λ e. At l s (ground before) e)) (has (is 63) s (ends (isSpace classOf) s done)) (λ h. going-end done at-done h) (λ h. going-encoding done at-done h)))))
+      outcome-then l s (Opened l s versionQuotes named acts) _ _ (openedAt classOf s named) (going-opened l s versionQuotes named acts)
+      (λ from r opened.
+      outcome-then l s _ _ _ (wordAt markup.oneDotZero s from)
+      (outcome-word l s markup.oneDotZero (exact (byteAt s (from - 1)) ∷ []) (versioned false) from (opened .here)) (λ to t at-to.
+      outcome-then l s _ _ _ (closedAt s from to)
+      (going-closed from to (versioned false) (opened .some) at-to (omega (arith, word-ends s markup.oneDotZero from to t)))
+      (λ done u at-done.
+      cond-cases (Outcome l s (λ e. At l s (ground before) e)) (has (is 63) s (ends (isSpace classOf) s done))
+      (λ h. going-end done at-done h) (λ h. going-encoding done at-done h)))))

@@ -1,60 +1,26 @@
 -- The machine reads comments where markup may begin, and what stands around the root, as `bangAt` and `aroundAt` do. Assumes nothing.
 use Prim.Native.Nat.{ℕ, zero, suc, _+_, _<_, _≤_}
-use mathlib.Core.Path.{_≡_, refl, sym, _∙_, ap, subst}
-use mathlib.Core.Bool.{Bool, true, false, cond, not, _&&_, _||_, true≢false}
-use mathlib.Core.List.{List, [], _∷_}
+use mathlib.Core.Path.{_≡_, refl, sym, _∙_, subst}
+use mathlib.Core.Bool.{Bool, true, false, not, _&&_, _||_, true≢false, and-false}
+use mathlib.Core.List.{List, []}
 use native.Mathlib.Omega.{arith}
 use lib.ListN.{length}
-use lib.Dec.{leb, eqb}
-use borrow.Author.Tests.{eqb-true}
+use lib.Dec.{leb}
+use Rattle.laws.proofs.Tests.{or-last, not-both}
 use Rattle.message.specs.Class.{classOf, isStart, isSpace}
-use Rattle.message.specs.Reading.{Reading, _>>=_, isWhole, is, byteAt, has, one, ends, wordAt}
-use Rattle.message.specs.Reading.Reading.{whole, refused}
-use Rattle.message.specs.Text.{commentAt}
+use Rattle.message.specs.Reading.{isWhole, is, byteAt, has, ends, wordAt}
 use Rattle.message.specs.Markup.{doctype, cdata, hyphens, opensAt, bangAt, aroundAt, declares}
 use Rattle.message.specs.Limits.{Limits}
-use Rattle.message.proofs.Laws.{cond-cases, and-true, has-in, has-lt, has-byte, one-yes, ends-more, ends-stop, ends-from, both-first, both-second}
+use Rattle.message.proofs.Laws.{cond-cases, has-byte, one-yes, ends-more, ends-stop, ends-from, both-first, both-second}
+use Rattle.message.proofs.Bytes.{has-fails, bang-no-start, space-no-tag}
+use Rattle.message.proofs.Runs.{ends-fails, has-known}
 use Rattle.message.proofs.Progress.{past-whole}
 use Rattle.message.proofs.MarkupLoop.{past-bang}
-use Rattle.message.proofs.Automaton.{Ground, first, before, behind, inside, State, ground, opened, note, Next, goes, step, rest, comment}
+use Rattle.message.proofs.Automaton.{Ground, first, before, behind, inside, ground, opened, note, rest, comment}
 use Rattle.message.proofs.Dues.{isBehind, isFirst, depth, opening, due, At}
 use Rattle.message.proofs.Going.{opens, Outcome, outcome-then, outcome-as, outcome-word, at-has, at-ends}
-use Rattle.message.proofs.Acting.{ends-fails}
 use Rattle.message.proofs.GoingText.{going-comment}
 use Rattle.message.proofs.Ways.{at-within}
-
--- a byte that is one is not another
-pub other-byte : (s : List ℕ) (b c i : ℕ) → eqb b c ≡ false → has (is b) s i ≡ true → has (is c) s i ≡ false
-other-byte s b c i differ h = has-in (is c) s i (has-lt (is b) s i h) ∙ ap (λ (x : ℕ). eqb x c) (eqb-true (byteAt s i) b (has-byte (is b) s i h)) ∙ differ
-
-pub byte-test : (s : List ℕ) (b i : ℕ) (test : ℕ → Bool) {t : Bool} → test b ≡ t → has (is b) s i ≡ true → has test s i ≡ t
-byte-test s b i test q h = has-in test s i (has-lt (is b) s i h) ∙ ap test (eqb-true (byteAt s i) b (has-byte (is b) s i h)) ∙ q
-
-pub and-none : (t : Bool) → (t && false) ≡ false
-and-none true = refl
-and-none false = refl
-
-pub or-last : (t : Bool) {u : Bool} → u ≡ true → (t || u) ≡ true
-or-last true e = refl
-or-last false e = e
-
-pub not-both : (t : Bool) {u : Bool} → (t ≡ true → u ≡ false) → not (t && u) ≡ true
-not-both true h = rw (h refl)
-not-both false h = refl
-
--- bytes behind a `<` that begin no name
-pub bang-no-start : isStart classOf 33 ≡ false
-unfolding classOf
-bang-no-start = refl
-
--- white space is no `<`
-space-no-tag : (x : ℕ) → isSpace classOf x ≡ true → is 60 x ≡ false
-unfolding classOf
-space-no-tag x h = go (eqb x 60) refl
-  where
-    go : (t : Bool) → eqb x 60 ≡ t → is 60 x ≡ false
-    go true e = let z : isSpace classOf x ≡ false = rw (eqb-true x 60 e) in absurd (true≢false (sym h ∙ z))
-    go false e = e
 
 module _ (l : Limits) (s : List ℕ) where
   -- ---- behind a `<!`
@@ -65,9 +31,16 @@ module _ (l : Limits) (s : List ℕ) where
 
     at-comment : undeclared ≡ false → At l s (comment g) (i + 2)
     at-comment none =
-        let free : due l s (ground g) i ≡ false = rw (tag, bang, none, other-byte s 33 63 (i + 1) refl bang, byte-test s 33 (i + 1) (isStart classOf) bang-no-start bang) (and-none (leb (l .levels) (depth g) && not (isBehind g))) in
+        let free : due l s (ground g) i ≡ false = rw (
+          tag,
+          bang,
+          none,
+          has-known 33 s (i + 1) bang (is 63),
+          has-known 33 s (i + 1) bang (isStart classOf) ∙ bang-no-start,
+        ) (and-false (leb (l .levels) (depth g) && not (isBehind g))) in
         let at-opened : At l s (opened g) (i + 1) = at-has l s (is 60) i here tag free (rw (has-byte (is 60) s i tag)) in
-        let free′ : due l s (opened g) (i + 1) ≡ false = rw (byte-test s 33 (i + 1) (isStart classOf) bang-no-start bang) (and-none (not (isBehind g))) in
+        let free′ : due l s (opened g) (i + 1) ≡ false =
+        rw (has-known 33 s (i + 1) bang (isStart classOf) ∙ bang-no-start) (and-false (not (isBehind g))) in
         subst (At l s (comment g)) (omega arith) (at-has l s (is 33) (i + 1) at-opened bang free′ (rw (has-byte (is 33) s (i + 1) bang)))
 
     pub going-bang : Outcome l s (λ e. At l s (ground (rest g)) e) (bangAt classOf s i)
@@ -77,7 +50,9 @@ module _ (l : Limits) (s : List ℕ) where
         rw (one-yes (is 60) s i tag, one-yes (is 33) s (i + 1) bang, two)
         (cond-cases (Outcome l s (λ e. At l s (ground (rest g)) e)) undeclared
         (λ h. (ground g, here, opens g refl tag (rw (bang, h))))
-        (λ h. outcome-then l s _ _ _ (wordAt hyphens s (i + 2)) (outcome-word l s hyphens [] (note 0 (ground (rest g))) (i + 2) (at-comment h)) (λ e q at-e. going-comment l s (ground (rest g)) (length s) e (omega arith) at-e)))
+        (λ h. outcome-then l s _ _ _ (wordAt hyphens s (i + 2))
+        (outcome-word l s hyphens [] (note 0 (ground (rest g))) (i + 2) (at-comment h))
+        (λ e q at-e. going-comment l s (ground (rest g)) (length s) e (omega arith) at-e)))
 
   -- ---- around the root
 
@@ -93,22 +68,26 @@ module _ (l : Limits) (s : List ℕ) where
     pub side : isBehind g′ ≡ isBehind g
     pub start : isFirst g′ ≡ true → isFirst g ≡ true
 
-  space-not-tag : (j : ℕ) → has (isSpace classOf) s j ≡ true → has (is 60) s j ≡ false
-  space-not-tag j h = has-in (is 60) s j (has-lt (isSpace classOf) s j h) ∙ space-no-tag (byteAt s j) (has-byte (isSpace classOf) s j h)
-
   -- white space leaves `before` and `behind` as they are
   stays-before : (i : ℕ) → At l s (ground before) i → At l s (ground before) (ends (isSpace classOf) s i)
-  stays-before i here = at-ends l s (isSpace classOf) (λ j h. rw (space-not-tag j h)) (λ x h. rw (space-no-tag x h, h)) i here
+  stays-before i here =
+      at-ends l s (isSpace classOf) (λ j h. rw (has-fails (isSpace classOf) (is 60) space-no-tag s j h))
+      (λ x h. rw (space-no-tag x h, h)) i here
 
   stays-behind : (i : ℕ) → At l s (ground behind) i → At l s (ground behind) (ends (isSpace classOf) s i)
-  stays-behind i here = at-ends l s (isSpace classOf) (λ j h. rw (space-not-tag j h)) (λ x h. rw (space-no-tag x h, h)) i here
+  stays-behind i here =
+      at-ends l s (isSpace classOf) (λ j h. rw (has-fails (isSpace classOf) (is 60) space-no-tag s j h))
+      (λ x h. rw (space-no-tag x h, h)) i here
 
-  over-blanks : (g : Ground) → Outer g → (i : ℕ) → At l s (ground g) i → (g′ : Ground) × At l s (ground g′) (ends (isSpace classOf) s i) × Along g g′
+  over-blanks : (g : Ground) → Outer g → (i : ℕ) → At l s (ground g) i
+      → (g′ : Ground) × At l s (ground g′) (ends (isSpace classOf) s i) × Along g g′
   over-blanks first outer i here = go (has (isSpace classOf) s i) refl
     where
       go : (t : Bool) → has (isSpace classOf) s i ≡ t → (g′ : Ground) × At l s (ground g′) (ends (isSpace classOf) s i) × Along first g′
       go true h =
-          let next : At l s (ground before) (i + 1) = at-has l s (isSpace classOf) i here h (rw (space-not-tag i h)) (rw (space-no-tag (byteAt s i) (has-byte (isSpace classOf) s i h), has-byte (isSpace classOf) s i h)) in
+          let next : At l s (ground before) (i + 1) = at-has l s (isSpace classOf) i here h
+          (rw (has-fails (isSpace classOf) (is 60) space-no-tag s i h))
+          (rw (space-no-tag (byteAt s i) (has-byte (isSpace classOf) s i h), has-byte (isSpace classOf) s i h)) in
           (before, rw (ends-more (isSpace classOf) s i h) (stays-before (i + 1) next), record { outer = tt; side = refl; start = λ e. refl })
       go false h = (first, rw (ends-stop (isSpace classOf) s i h) here, record { outer = tt; side = refl; start = λ e. refl })
   over-blanks before outer i here = (before, stays-before i here, record { outer = tt; side = refl; start = λ e. e })
@@ -124,10 +103,11 @@ module _ (l : Limits) (s : List ℕ) where
   along-then : (g g′ g″ : Ground) → Along g g′ → Along g′ g″ → Along g g″
   along-then g g′ g″ a a′ = record { outer = a′ .outer; side = a′ .side ∙ a .side; start = λ e. a .start (a′ .start e) }
 
-  question-opens : (g : Ground) (i : ℕ) → has (is 63) s (i + 1) ≡ true → (isFirst g ≡ true → declares classOf s ≡ false) → opening l s g i ≡ true
+  question-opens : (g : Ground) (i : ℕ) → has (is 63) s (i + 1) ≡ true → (isFirst g ≡ true → declares classOf s ≡ false)
+      → opening l s g i ≡ true
   question-opens g i h plain =
-      or-last (has (is 33) s (i + 1) && (isWhole (wordAt doctype s (i + 2)) || isWhole (wordAt cdata s (i + 2)))) {u = has (is 63) s (i + 1) && not (isFirst g && declares classOf s)}
-      (rw h (not-both (isFirst g) plain))
+      or-last (has (is 33) s (i + 1) && (isWhole (wordAt doctype s (i + 2)) || isWhole (wordAt cdata s (i + 2))))
+      {b = has (is 63) s (i + 1) && not (isFirst g && declares classOf s)} (rw h (not-both (isFirst g) plain))
 
   -- behind white space and comments, at what is neither
   pub record Around (g : Ground) (e : ℕ) : Type 0 where
@@ -138,7 +118,22 @@ module _ (l : Limits) (s : List ℕ) where
     pub no-bang : opensAt 33 s e ≡ false
     pub no-question : opensAt 63 s e ≡ false
 
-  pub going-around : (fuel : ℕ) (g : Ground) → Outer g → (isFirst g ≡ true → declares classOf s ≡ false) → (i : ℕ) → length s < fuel + i → At l s (ground g) i → Outcome l s (Around g) (aroundAt classOf fuel s i)
+  around-along : (g g′ : Ground) (e : ℕ) → Along g g′ → Around g′ e → Around g e
+  around-along g g′ e along a = record {
+    now = a .now;
+    here = a .here;
+    along = along-then g g′ (a .now) along (a .along);
+    solid = a .solid;
+    no-bang = a .no-bang;
+    no-question = a .no-question;
+  }
+
+  -- behind white space, at a `<` and another byte
+  opens-both : (b i : ℕ) → opensAt b s i ≡ true → (has (is 60) s i ≡ true) × (has (is b) s (i + 1) ≡ true)
+  opens-both b i h = (both-first (has (is 60) s i) (has (is b) s (i + 1)) h, both-second (has (is 60) s i) (has (is b) s (i + 1)) h)
+
+  pub going-around : (fuel : ℕ) (g : Ground) → Outer g → (isFirst g ≡ true → declares classOf s ≡ false) → (i : ℕ) → length s < fuel + i
+      → At l s (ground g) i → Outcome l s (Around g) (aroundAt classOf fuel s i)
   unfolding aroundAt
   going-around zero g outer plain i enough here = absurd (omega (arith, at-within l s i (ground g) here))
   going-around (suc fuel) g outer plain i enough here =
@@ -148,13 +143,24 @@ module _ (l : Limits) (s : List ℕ) where
       let on : i ≤ stop = ends-from (isSpace classOf) s i in
       cond-cases (Outcome l s (Around g)) (opensAt 33 s stop)
       (λ h.
-      outcome-then l s (λ e. At l s (ground (rest g′)) e) (Around g) _ (bangAt classOf s stop) (going-bang g′ stop (over .1) (both-first (has (is 60) s stop) (has (is 33) s (stop + 1)) h) (both-second (has (is 60) s stop) (has (is 33) s (stop + 1)) h)) (λ e q at-e.
+      let both = opens-both 33 stop h in
+      outcome-then l s (λ e. At l s (ground (rest g′)) e) (Around g) _ (bangAt classOf s stop)
+      (going-bang g′ stop (over .1) (both .0) (both .1)) (λ e q at-e.
       let along : Along g (rest g′) = along-rest g g′ (over .2) in
       let past : stop < e = past-whole (λ x. x) (length s) stop q (past-bang classOf s stop stop (omega arith)) .0 in
       outcome-as l s (Around (rest g′)) (Around g) (aroundAt classOf fuel s e)
       (going-around fuel (rest g′) (along .outer) (λ f. plain (along .start f)) e (omega arith) at-e)
-      (λ e′ q′ a. record { now = a .now; here = a .here; along = along-then g (rest g′) (a .now) along (a .along); solid = a .solid; no-bang = a .no-bang; no-question = a .no-question })))
+      (λ e′ q′ a. around-along g (rest g′) e′ along a)))
       (λ no-bang.
       cond-cases (Outcome l s (Around g)) (opensAt 63 s stop)
-      (λ h. (ground g′, over .1, opens g′ refl (both-first (has (is 60) s stop) (has (is 63) s (stop + 1)) h) (question-opens g′ stop (both-second (has (is 60) s stop) (has (is 63) s (stop + 1)) h) (λ f. plain (over .2 .start f)))))
-      (λ no-question. record { now = g′; here = over .1; along = over .2; solid = ends-fails (isSpace classOf) s i; no-bang = no-bang; no-question = no-question }))
+      (λ h.
+      let both = opens-both 63 stop h in
+      (ground g′, over .1, opens g′ refl (both .0) (question-opens g′ stop (both .1) (λ f. plain (over .2 .start f)))))
+      (λ no-question. record {
+        now = g′;
+        here = over .1;
+        along = over .2;
+        solid = ends-fails (isSpace classOf) s i;
+        no-bang = no-bang;
+        no-question = no-question;
+      }))

@@ -1,41 +1,23 @@
 -- The machine reads names as `nameAt` does, in a start tag and in an attribute alike. Assumes nothing.
-use Prim.Native.Nat.{ℕ, zero, suc, _+_, _-_, _<_, _≤_}
+use Prim.Native.Nat.{ℕ, _+_, _<_, _≤_}
 use mathlib.Core.Path.{_≡_, refl, sym, _∙_, ap, subst}
-use mathlib.Core.Bool.{Bool, true, false, cond, not, _&&_}
+use mathlib.Core.Bool.{Bool, true, false, cond, not, _&&_, and-false}
 use mathlib.Core.List.{List, [], _∷_, _++_}
-use native.Mathlib.Numerals.{add-one}
 use native.Mathlib.Omega.{arith}
-use lib.ListN.{length, take}
-use lib.Seq.{take-suc, drop-append-le, length-take-le, slice-empty}
-use lib.Dec.{ltb, leb, eqb}
-use borrow.Author.Tests.{le-leb, eqb-true}
+use lib.ListN.{length}
 use Rattle.message.specs.Class.{classOf, isStart, isName}
-use Rattle.message.specs.Reading.{Reading, _>>=_, is, byteAt, has, one, ends}
+use Rattle.message.specs.Reading.{_>>=_, is, byteAt, has, one, ends}
 use Rattle.message.specs.Reading.Reading.{whole, refused}
 use Rattle.message.specs.Names.{Named, shortAt, partAt, nameAt}
 use Rattle.message.specs.Limits.{Limits}
 use Rattle.message.specs.Elements.{part}
-use Rattle.message.specs.Readable.{FirstPart, PartStands, first, second}
-use Rattle.message.proofs.Laws.{cond-cases, has-in, has-out, has-lt, has-byte, one-yes, one-no, ends-more, ends-stop, ends-from}
-use Rattle.message.proofs.Automaton.{State, Next, dead, goes, only, step}
+use Rattle.message.specs.Readable.{FirstPart, second}
+use Rattle.message.proofs.Laws.{cond-cases, has-lt, has-byte, one-yes, one-no, ends-more, fails-byte}
+use Rattle.message.proofs.Parts.{part-more}
+use Rattle.message.proofs.Runs.{ends-fails, byte-is, start-name, start-in-name, run-keeps}
+use Rattle.message.proofs.Automaton.{State, dead, goes, only, step}
 use Rattle.message.proofs.Dues.{mayEnd, long, longPart, due, At}
-use Rattle.message.proofs.Going.{MarkedAt, Part, Roomy, Stuck, longs, Outcome, outcome-then, at-has}
-use Rattle.message.proofs.Acting.{ends-fails, fails-byte, stuck-here, Acts, acts-at, acts-one}
-
--- a part of the message and one byte more
-pub part-more : (s : List ℕ) (b i : ℕ) → b ≤ i → i < length s → part s b (i + 1) ≡ part s b i ++ (byteAt s i ∷ [])
-part-more s b i h inside = rw (add-one, take-suc s i 0 inside, drop-append-le b (take i s) (byteAt s i ∷ []) (rw (length-take-le i s (omega arith)) h))
-
-pub part-one : (s : List ℕ) (b : ℕ) → b < length s → part s b (b + 1) ≡ byteAt s b ∷ []
-part-one s b inside = part-more s b b (omega arith) inside ∙ rw (slice-empty b s)
-
--- what begins a name may stand in one
-pub start-name : (x : ℕ) → isStart classOf x ≡ true → isName classOf x ≡ true
-start-name x h = le-leb 4 (classOf x) (omega (arith, eqb-true (classOf x) 5 h))
-
-pub colon-no-name : isName classOf 58 ≡ false
-unfolding classOf
-colon-no-name = refl
+use Rattle.message.proofs.Going.{MarkedAt, Part, Roomy, longs, Outcome, outcome-then, at-has, stuck-here}
 
 module _ (l : Limits) (s : List ℕ) where
   -- the states in which a name is read: in its first part or its second, with what was read of it, and behind the colon
@@ -54,16 +36,16 @@ module _ (l : Limits) (s : List ℕ) where
     abbrev In : ℕ → Type 0
     In i = At l s (N .inPart t (part s b i)) i
 
-    run-turn : (i : ℕ) (u : Bool) → has (isName classOf) s i ≡ u → In i → (has (isName classOf) s i ≡ true → In (ends (isName classOf) s (i + 1))) → In (ends (isName classOf) s i)
-    run-turn i true h here more = rw (ends-more (isName classOf) s i h) (more h)
-    run-turn i false h here more = rw (ends-stop (isName classOf) s i h) here
-
-    run-on : (n i : ℕ) → length s ≤ n + i → b ≤ i → In i → In (ends (isName classOf) s i)
-    run-on zero i enough from here = rw (ends-stop (isName classOf) s i (has-out (isName classOf) s i (omega arith))) here
-    run-on (suc n) i enough from here =
-        run-turn i (has (isName classOf) s i) refl here (λ h. run-on n (i + 1) (omega arith) (omega arith)
-        (subst (λ (w : List ℕ). At l s (N .inPart t w) (i + 1)) (sym (part-more s b i from (has-lt (isName classOf) s i h)))
-        (at-has l s (isName classOf) i here h (N .free t (part s b i) i) (N .grows t (part s b i) (byteAt s i) (has-byte (isName classOf) s i h)))))
+    run-on : (i : ℕ) → b ≤ i → In i → In (ends (isName classOf) s i)
+    run-on i from here = run-keeps (isName classOf) s (λ (j : ℕ). (b ≤ j) × In j) grown i (from, here) .1
+      where
+        grown : (j : ℕ) → has (isName classOf) s j ≡ true → (b ≤ j) × In j → (b ≤ j + 1) × In (j + 1)
+        grown j h p =
+            let next = at-has l s (isName classOf) j (p .1) h (N .free t (part s b j) j)
+            (N .grows t (part s b j) (byteAt s j) (has-byte (isName classOf) s j h)) in (
+              omega (arith, p .0),
+              subst (λ (w : List ℕ). At l s (N .inPart t w) (j + 1)) (sym (part-more s b j (p .0) (has-lt (isName classOf) s j h))) next,
+            )
 
     -- before the first byte of a part, which begins at q, in a name that begins at b
     pub record Before (q : ℕ) : Type 0 where
@@ -78,10 +60,10 @@ module _ (l : Limits) (s : List ℕ) where
       pub stands : Part l s q
 
     -- behind the last
-    pub record Behind (q e : ℕ) : Type 0 where
-      pub here : At l s (N .inPart t (part s b e)) e
-      pub run : e ≡ ends (isName classOf) s q
-      pub on : q < e
+    record Behind (q e : ℕ) : Type 0 where
+      here : At l s (N .inPart t (part s b e)) e
+      run : e ≡ ends (isName classOf) s q
+      on : q < e
 
     going-part : (q : ℕ) → Before q → Outcome l s (Behind q) (partAt classOf (l .part) s q)
     unfolding partAt shortAt
@@ -89,18 +71,22 @@ module _ (l : Limits) (s : List ℕ) where
       where
         run : has (isStart classOf) s q ≡ true → long l s q ≡ false → Behind q (ends (isName classOf) s q)
         run h short =
-            let named : has (isName classOf) s q ≡ true = has-in (isName classOf) s q (has-lt (isStart classOf) s q h) ∙ start-name (byteAt s q) (has-byte (isStart classOf) s q h) in
+            let named : has (isName classOf) s q ≡ true = start-name classOf s q h in
             record {
-              here = rw (ends-more (isName classOf) s q named) (run-on (length s) (q + 1) (omega arith) (omega (arith, at-q .from)) (at-has l s (isStart classOf) q (at-q .here) h (at-q .looks h ∙ short) (at-q .starts h)));
+              here = rw (ends-more (isName classOf) s q named)
+                  (run-on (q + 1) (omega (arith, at-q .from))
+                  (at-has l s (isStart classOf) q (at-q .here) h (at-q .looks h ∙ short) (at-q .starts h)));
               run = refl;
-              on = omega (arith, ends-more (isName classOf) s q named, ends-from (isName classOf) s (q + 1));
+              on = start-in-name classOf s q h;
             }
 
-        short : has (isStart classOf) s q ≡ true → (u : Bool) → long l s q ≡ u → Outcome l s (Behind q) (cond u (refused 14 q) (whole (ends (isName classOf) s q)))
+        short : has (isStart classOf) s q ≡ true → (u : Bool) → long l s q ≡ u
+            → Outcome l s (Behind q) (cond u (refused 14 q) (whole (ends (isName classOf) s q)))
         short h true e = (at-q .state, at-q .here, longs (at-q .looks h ∙ e) e _ (at-q .starts h) (at-q .roomy) (at-q .stands))
         short h false e = run h e
 
-        go : (u : Bool) → has (isStart classOf) s q ≡ u → Outcome l s (Behind q) (one (isStart classOf) s q >>= (λ next. shortAt classOf (l .part) s q))
+        go : (u : Bool) → has (isStart classOf) s q ≡ u
+            → Outcome l s (Behind q) (one (isStart classOf) s q >>= (λ next. shortAt classOf (l .part) s q))
         go true h = rw (one-yes (isStart classOf) s q h) (short h (long l s q) refl)
         go false h = rw (one-no (isStart classOf) s q h) (stuck-here l s (at-q .here) (at-q .more) (λ inside. at-q .fails inside h))
 
@@ -133,27 +119,25 @@ module _ (l : Limits) (s : List ℕ) where
         undivided : (e : ℕ) → Behind N false b b e → has (is 58) s e ≡ false → NameRead b (record { local = b; end = e })
         undivided e behind h = record { inSecond = false; here = behind .here; ended = stopped e behind; undivided = rw h }
 
-        no-colon : (t : Bool) → (t && false) ≡ false
-        no-colon true = refl
-        no-colon false = refl
-
         colon-part : (e : ℕ) → b ≤ e → has (is 58) s e ≡ true → part s b e ++ (58 ∷ []) ≡ part s b (e + 1)
         colon-part e from h =
-            ap (λ (x : ℕ). part s b e ++ (x ∷ [])) (sym (eqb-true (byteAt s e) 58 (has-byte (is 58) s e h))) ∙ sym (part-more s b e from (has-lt (is 58) s e h))
+            ap (λ (x : ℕ). part s b e ++ (x ∷ [])) (sym (byte-is 58 s e h)) ∙ sym (part-more s b e from (has-lt (is 58) s e h))
 
         before-second : (e : ℕ) → Behind N false b b e → has (is 58) s e ≡ true → Before N true b (e + 1)
         before-second e behind h =
             let from : b ≤ e = omega (arith, behind .on) in
-            let colon : byteAt s e ≡ 58 = eqb-true (byteAt s e) 58 (has-byte (is 58) s e h) in
+            let colon : byteAt s e ≡ 58 = byte-is 58 s e h in
             record {
               state = N .behindColon (part s b (e + 1));
               here = subst (λ (w : List ℕ). At l s (N .behindColon w) (e + 1)) (colon-part e from h)
-              (at-has l s (is 58) e (behind .here) h (N .free false (part s b e) e) (ap (step (N .inPart false (part s b e))) colon ∙ N .splits (part s b e)));
+                  (at-has l s (is 58) e (behind .here) h (N .free false (part s b e) e)
+                  (ap (step (N .inPart false (part s b e))) colon ∙ N .splits (part s b e)));
               more = N .colon-more (part s b (e + 1));
               from = omega arith;
               starts = λ st. N .begins (part s b (e + 1)) (byteAt s (e + 1))
-              ∙ rw (has-byte (isStart classOf) s (e + 1) st, part-more s b (e + 1) (omega arith) (has-lt (isStart classOf) s (e + 1) st));
-              fails = λ inside no-start. N .begins (part s b (e + 1)) (byteAt s (e + 1)) ∙ rw (fails-byte (isStart classOf) s (e + 1) inside no-start);
+                  ∙ rw (has-byte (isStart classOf) s (e + 1) st, part-more s b (e + 1) (omega arith) (has-lt (isStart classOf) s (e + 1) st));
+              fails = λ inside no-start. N .begins (part s b (e + 1)) (byteAt s (e + 1))
+                  ∙ rw (fails-byte (isStart classOf) s (e + 1) inside no-start);
               looks = λ st. N .looks (part s b (e + 1)) (e + 1) ∙ rw st;
               roomy = N .colon-roomy (part s b (e + 1));
               stands = record {
@@ -163,7 +147,9 @@ module _ (l : Limits) (s : List ℕ) where
               };
             }
 
-        divided : (e : ℕ) → Behind N false b b e → has (is 58) s e ≡ true → Outcome l s (NameRead b) (partAt classOf (l .part) s (e + 1) >>= (λ last. whole (record { local = e + 1; end = last })))
+        divided : (e : ℕ) → Behind N false b b e → has (is 58) s e ≡ true
+            → Outcome l s (NameRead b) (partAt classOf (l .part) s (e + 1) >>= (λ last. whole (record { local = e + 1; end = last })))
         divided e behind h =
-            outcome-then l s (Behind N true b (e + 1)) (NameRead b) _ (partAt classOf (l .part) s (e + 1)) (going-part N true b (e + 1) (before-second e behind h))
-            (λ last q behind′. record { inSecond = true; here = behind′ .here; ended = stopped last behind′; undivided = no-colon (has (is 58) s last) })
+            outcome-then l s (Behind N true b (e + 1)) (NameRead b) _ (partAt classOf (l .part) s (e + 1))
+            (going-part N true b (e + 1) (before-second e behind h))
+            (λ last q behind′. record { inSecond = true; here = behind′ .here; ended = stopped last behind′; undivided = and-false (has (is 58) s last) })

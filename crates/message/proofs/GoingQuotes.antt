@@ -1,41 +1,35 @@
--- The machine reads `=` and a quotation mark as `openedAt` does, before an attribute's value and in the declaration alike; and a word behind white space.
--- Assumes nothing.
-use Prim.Native.Nat.{ℕ, _+_, _-_, _<_, _≤_}
+-- The machine reads `=` and a quotation mark as `openedAt` does, before an attribute's value and in the declaration alike; and a word
+-- behind white space. Assumes nothing.
+use Prim.Native.Nat.{ℕ, _+_, _-_, _<_}
 use mathlib.Core.Path.{_≡_, refl, sym, _∙_, ap, subst}
-use mathlib.Core.Bool.{Bool, true, false, cond}
+use mathlib.Core.Bool.{true, false, cond}
 use mathlib.Core.List.{List, [], _∷_, _++_}
 use native.Mathlib.Omega.{arith}
 use lib.ListN.{length}
-use lib.Dec.{eqb}
-use borrow.Author.Tests.{eqb-true}
 use Rattle.message.specs.Class.{classOf, isSpace}
-use Rattle.message.specs.Reading.{Reading, _>>=_, is, byteAt, has, one, ends, wordAt, isQuote, equalsAt, openedAt}
+use Rattle.message.specs.Reading.{is, byteAt, has, one, ends, wordAt, isQuote, equalsAt, openedAt}
 use Rattle.message.specs.Limits.{Limits}
-use Rattle.message.proofs.Laws.{or-false, has-lt, has-byte, one-has}
-use Rattle.message.proofs.Automaton.{Test, exact, exactly, State, blanks, Next, dead, goes, only, step, expecting, solid-equals, equals, stepBlanks}
+use Rattle.message.proofs.Laws.{has-lt, has-byte, one-has, fails-byte}
+use Rattle.message.proofs.Bytes.{solid-equals, quote-no-space}
+use Rattle.message.proofs.Runs.{ends-fails}
+use Rattle.message.proofs.Automaton.{Test, exact, exactly, State, blanks, Next, goes, only, step, expecting, stepBlanks}
 use Rattle.message.proofs.Dues.{mayEnd, due, At}
 use Rattle.message.proofs.Going.{Outcome, outcome-then, outcome-as, outcome-one, outcome-word, at-ends}
-use Rattle.message.proofs.Acting.{ends-fails, fails-byte, Acts, acts-one, acts-at, acts-blanks}
-
-quote-no-space : (x : ℕ) → isQuote x ≡ true → isSpace classOf x ≡ false
-unfolding classOf
-quote-no-space x h = go (eqb x 34) refl
-  where
-    go : (t : Bool) → eqb x 34 ≡ t → isSpace classOf x ≡ false
-    go true e = rw (eqb-true x 34 e)
-    go false e = rw (eqb-true x 39 (or-false _ e ∙ h))
+use Rattle.message.proofs.Acting.{Acts, acts-one, acts-at, acts-blanks}
 
 module _ (l : Limits) (s : List ℕ) where
   -- ---- a word behind white space
 
   module _ (b : ℕ) (solid : isSpace classOf b ≡ false) (ts : List Test) (k : State) where
     -- what the machine does there
-    abbrev pub awaiting : ℕ → Next
+    abbrev awaiting : ℕ → Next
     awaiting = stepBlanks (exact b) solid ts k
 
-    pub going-blanks : (i : ℕ) → Acts l s awaiting i → Outcome l s (λ e. At l s (expecting ts k) e × (e ≡ ends (isSpace classOf) s i + 1)) (one (is b) s (ends (isSpace classOf) s i))
+    going-blanks : (i : ℕ) → Acts l s awaiting i
+        → Outcome l s (λ e. At l s (expecting ts k) e × (e ≡ ends (isSpace classOf) s i + 1)) (one (is b) s (ends (isSpace classOf) s i))
     going-blanks i acts =
-        acts-one l s there (expecting ts k) (is b) (λ h. rw (solid-there (has-lt (is b) s p h), has-byte (is b) s p h)) (λ within h. rw (solid-there within, fails-byte (is b) s p within h))
+        acts-one l s there (expecting ts k) (is b) (λ h. rw (solid-there (has-lt (is b) s p h), has-byte (is b) s p h))
+        (λ within h. rw (solid-there within, fails-byte (is b) s p within h))
       where
         p : ℕ
         p = ends (isSpace classOf) s i
@@ -46,10 +40,13 @@ module _ (l : Limits) (s : List ℕ) where
         solid-there : p < length s → isSpace classOf (byteAt s p) ≡ false
         solid-there within = fails-byte (isSpace classOf) s p within (ends-fails (isSpace classOf) s i)
 
-  pub going-blanks-word : (b : ℕ) (solid : isSpace classOf b ≡ false) (w : List ℕ) (ts : List Test) (k : State) (i : ℕ) → At l s (blanks (exact b) solid (exactly w ++ ts) k) i → Outcome l s (λ e. At l s (expecting ts k) e) (wordAt (b ∷ w) s (ends (isSpace classOf) s i))
+  pub going-blanks-word : (b : ℕ) (solid : isSpace classOf b ≡ false) (w : List ℕ) (ts : List Test) (k : State) (i : ℕ)
+      → At l s (blanks (exact b) solid (exactly w ++ ts) k) i
+      → Outcome l s (λ e. At l s (expecting ts k) e) (wordAt (b ∷ w) s (ends (isSpace classOf) s i))
   unfolding wordAt
   going-blanks-word b solid w ts k i here =
-      outcome-then l s _ _ _ (one (is b) s (ends (isSpace classOf) s i)) (going-blanks b solid (exactly w ++ ts) k i (acts-at l s _ i here refl refl)) (λ e q h. outcome-word l s w ts k e (h .0))
+      outcome-then l s _ _ _ (one (is b) s (ends (isSpace classOf) s i))
+      (going-blanks b solid (exactly w ++ ts) k i (acts-at l s _ i here refl refl)) (λ e q h. outcome-word l s w ts k e (h .0))
 
   -- ---- a quotation mark
 
@@ -81,7 +78,8 @@ module _ (l : Limits) (s : List ℕ) where
         outcome-as l s (λ e. At l s (Q .next (byteAt s mark)) e × (e ≡ mark + 1)) _ (one isQuote s mark)
         (outcome-one l s (Q .next (byteAt s mark)) isQuote mark (here .0) (Q .more) (λ h. Q .free mark)
         (λ h. Q .does (byteAt s mark) ∙ rw (quote-no-space (byteAt s mark) (has-byte isQuote s mark h), has-byte isQuote s mark h))
-        (λ within h. Q .does (byteAt s mark) ∙ rw (fails-byte (isSpace classOf) s mark within (here .1), fails-byte isQuote s mark within h)))
+        (λ within h. Q .does (byteAt s mark)
+        ∙ rw (fails-byte (isSpace classOf) s mark within (here .1), fails-byte isQuote s mark within h)))
         (λ e r h. behind mark e (one-has isQuote s mark e r .0) h))
       where
         behind : (mark e : ℕ) → has isQuote s mark ≡ true → At l s (Q .next (byteAt s mark)) e × (e ≡ mark + 1) → Opened e

@@ -1,28 +1,29 @@
 -- The machine reads start tags as `startAt` does, where an element may begin. Assumes nothing.
-use Prim.Native.Nat.{ℕ, _+_, _<_, _≤_}
-use mathlib.Core.Path.{_≡_, refl, sym, _∙_, ap, subst}
-use mathlib.Core.Bool.{Bool, true, false, cond, not, _&&_, _||_, true≢false}
+use Prim.Native.Nat.{ℕ, _+_, _<_}
+use mathlib.Core.Path.{_≡_, refl, sym, _∙_, ap}
+use mathlib.Core.Bool.{Bool, true, false, not, _&&_, true≢false, and-false}
 use mathlib.Core.List.{List, [], _∷_}
 use native.Mathlib.Omega.{arith}
 use lib.ListN.{length}
-use lib.Dec.{leb, eqb}
+use lib.Dec.{leb}
 use borrow.Author.Tests.{le-leb}
 use Rattle.message.specs.Class.{classOf, isStart, isName}
-use Rattle.message.specs.Reading.{Reading, _>>=_, is, byteAt, has, one}
+use Rattle.message.specs.Reading.{_>>=_, is, byteAt, has, one}
 use Rattle.message.specs.Reading.Reading.{whole, refused}
 use Rattle.message.specs.Names.{Named, nameAt}
 use Rattle.message.specs.Limits.{Limits}
-use Rattle.message.specs.Elements.{part, Element, Start, endsTag, startEndAt, tooDeepAt, attributesAt, withNameAt, startAt}
+use Rattle.message.specs.Elements.{part, Element, Start, startEndAt, tooDeepAt, attributesAt, withNameAt, startAt}
 use Rattle.message.specs.Readable.{of-start}
 use Rattle.message.specs.Readable as readable
-use Rattle.message.proofs.Laws.{cond-cases, has-second, has-in, has-lt, has-byte, one-yes, one-no}
-use Rattle.message.proofs.Automaton.{Ground, first, before, behind, inside, State, ground, opened, name, colon, inTag, slash, Next, dead, goes, step, after, named, tag, betweenTags, stepInTag}
-use Rattle.message.proofs.Dues.{isBehind, depth, opening, long, due, At}
-use Rattle.message.proofs.Going.{deep, Stuck, Outcome, outcome-then, outcome-as, outcome-one, at-has}
-use Rattle.message.proofs.Acting.{fails-byte, stuck-here, Acts, acts-at, acts-as}
-use Rattle.message.proofs.GoingNames.{colon-no-name, part-one, Naming, NameRead, NameBefore, going-name}
+use Rattle.message.proofs.Laws.{cond-cases, has-second, has-in, has-lt, has-byte, one-yes, one-no, fails-byte}
+use Rattle.message.proofs.Parts.{part-one}
+use Rattle.message.proofs.Bytes.{colon-no-name}
+use Rattle.message.proofs.Automaton.{Ground, first, before, behind, inside, ground, opened, name, colon, inTag, dead, step, after, named, tag, betweenTags, stepInTag}
+use Rattle.message.proofs.Dues.{isBehind, depth, opening, At}
+use Rattle.message.proofs.Going.{deep, Stuck, Outcome, outcome-then, outcome-one, at-has, stuck-here}
+use Rattle.message.proofs.Acting.{acts-at, acts-as}
+use Rattle.message.proofs.GoingNames.{Naming, NameRead, NameBefore, going-name}
 use Rattle.message.proofs.GoingAttributes.{Tagged, EndsAt, going-attributes}
-use Rattle.message.proofs.GoingMarkup.{and-none}
 
 -- the names of the elements that are open
 abbrev pub names : Ground → List (List ℕ)
@@ -71,9 +72,14 @@ module _ (l : Limits) (s : List ℕ) where
       at-opened room = at-has l s (is 60) i (place .here) tagged (rw (tagged, no-opening, room)) (rw (has-byte (is 60) s i tagged))
 
       opens-name : i + 1 < length s → step (opened g) (byteAt s (i + 1)) ≡ named (names g) (byteAt s (i + 1))
-      opens-name within = rw (fails-byte (is 33) s (i + 1) within (place .no-bang tagged)) (go g (place .front) (fails-byte (is 63) s (i + 1) within (place .no-question tagged)) (λ t. fails-byte (is 47) s (i + 1) within t) (place .no-slash tagged))
+      opens-name within =
+          rw (fails-byte (is 33) s (i + 1) within (place .no-bang tagged))
+          (go g (place .front) (fails-byte (is 63) s (i + 1) within (place .no-question tagged))
+          (λ t. fails-byte (is 47) s (i + 1) within t) (place .no-slash tagged))
         where
-          go : (g : Ground) → isBehind g ≡ false → is 63 (byteAt s (i + 1)) ≡ false → (has (is 47) s (i + 1) ≡ false → is 47 (byteAt s (i + 1)) ≡ false) → slashed g (i + 1) ≡ false → tag g (byteAt s (i + 1)) ≡ named (names g) (byteAt s (i + 1))
+          go : (g : Ground) → isBehind g ≡ false → is 63 (byteAt s (i + 1)) ≡ false
+              → (has (is 47) s (i + 1) ≡ false → is 47 (byteAt s (i + 1)) ≡ false) → slashed g (i + 1) ≡ false
+              → tag g (byteAt s (i + 1)) ≡ named (names g) (byteAt s (i + 1))
           go first front other ends-it t = rw other
           go before front other ends-it t = refl
           go behind front other ends-it t = absurd (true≢false front)
@@ -85,11 +91,15 @@ module _ (l : Limits) (s : List ℕ) where
     unfolding tooDeepAt
     going-deep P full = go (has (is 60) s i) refl
       where
-        start : has (is 60) s i ≡ true → (t : Bool) → has (isStart classOf) s (i + 1) ≡ t → Outcome l s P (one (isStart classOf) s (i + 1) >>= (λ _. refused 10 i))
-        start tagged true h = rw (one-yes (isStart classOf) s (i + 1) h) (ground g, place .here, deep g refl tagged (rw (le-leb (l .levels) (depth g) (omega arith), place .front, h)) full)
+        start : has (is 60) s i ≡ true → (t : Bool) → has (isStart classOf) s (i + 1) ≡ t
+            → Outcome l s P (one (isStart classOf) s (i + 1) >>= (λ _. refused 10 i))
+        start tagged true h =
+            rw (one-yes (isStart classOf) s (i + 1) h)
+            (ground g, place .here, deep g refl tagged (rw (le-leb (l .levels) (depth g) (omega arith), place .front, h)) full)
         start tagged false h =
             rw (one-no (isStart classOf) s (i + 1) h)
-            (stuck-here l s (at-opened tagged (rw h (and-none (leb (l .levels) (depth g) && not (isBehind g))))) refl (λ within. opens-name tagged within ∙ rw (fails-byte (isStart classOf) s (i + 1) within h)))
+            (stuck-here l s (at-opened tagged (rw h (and-false (leb (l .levels) (depth g) && not (isBehind g))))) refl
+            (λ within. opens-name tagged within ∙ rw (fails-byte (isStart classOf) s (i + 1) within h)))
 
         go : (t : Bool) → has (is 60) s i ≡ t → Outcome l s P (one (is 60) s i >>= (λ b. one (isStart classOf) s b >>= (λ _. refused 10 i)))
         go true h = rw (one-yes (is 60) s i h) (start h (has (isStart classOf) s (i + 1)) refl)
@@ -118,7 +128,8 @@ module _ (l : Limits) (s : List ℕ) where
           here = at-opened tagged (rw room);
           more = refl;
           from = omega arith;
-          starts = λ h. opens-name tagged (has-lt (isStart classOf) s (i + 1) h) ∙ rw (has-byte (isStart classOf) s (i + 1) h, part-one s (i + 1) (has-lt (isStart classOf) s (i + 1) h));
+          starts = λ h. opens-name tagged (has-lt (isStart classOf) s (i + 1) h)
+              ∙ rw (has-byte (isStart classOf) s (i + 1) h, part-one s (i + 1) (has-lt (isStart classOf) s (i + 1) h));
           fails = λ within h. opens-name tagged within ∙ rw (fails-byte (isStart classOf) s (i + 1) within h);
           looks = λ h. rw (place .front, h);
           roomy = λ spaced m seen o e. let z : _≡_ {A = ℕ} 0 1 = cc in absurd (omega arith);
@@ -130,22 +141,29 @@ module _ (l : Limits) (s : List ℕ) where
       }
 
       -- behind the name
-      pub tagged-there : (n : Named) → nameAt classOf (l .part) s (i + 1) ≡ whole n → NameRead l s naming (i + 1) n → Tagged l s (part s (i + 1) (n .end)) (names g) [] (n .end)
+      pub tagged-there : (n : Named) → nameAt classOf (l .part) s (i + 1) ≡ whole n → NameRead l s naming (i + 1) n
+          → Tagged l s (part s (i + 1) (n .end)) (names g) [] (n .end)
       tagged-there n q read = record {
-        acts = acts-as l s (acts-at l s _ (n .end) (read .here) refl refl) (stepInTag false (part s (i + 1) (n .end)) [] (names g)) (λ within.
-        rw (fails-byte (isName classOf) s (n .end) within (read .ended), ap (λ (t : Bool). t && not (read .inSecond)) (sym (has-in (is 58) s (n .end) within)) ∙ read .undivided));
+        acts =
+            acts-as l s (acts-at l s _ (n .end) (read .here) refl refl) (stepInTag false (part s (i + 1) (n .end)) [] (names g)) (λ within.
+            rw (
+              fails-byte (isName classOf) s (n .end) within (read .ended),
+              ap (λ (t : Bool). t && not (read .inSecond)) (sym (has-in (is 58) s (n .end) within)) ∙ read .undivided,
+            ));
         tag = i;
         marked = (g, place .here);
         stands = record { opens = tagged; name = n; named = (l .part, q); attributes = refl };
         few = omega arith;
       }
 
-      going-start-end : (n : Named) (p : ℕ) → EndsAt l s (part s (i + 1) (n .end)) (names g) p → Outcome l s (Started g i) (startEndAt s (i + 1) n p)
+      going-start-end : (n : Named) (p : ℕ) → EndsAt l s (part s (i + 1) (n .end)) (names g) p
+          → Outcome l s (Started g i) (startEndAt s (i + 1) n p)
       unfolding startEndAt
       going-start-end n p ends =
           cond-cases (Outcome l s (Started g i)) (has (is 47) s p)
           (λ h. outcome-then l s _ _ _ (one (is 62) s (p + 1))
-          (outcome-one l s (after (names g)) (is 62) (p + 1) (ends .empties h) refl (λ t. refl) (λ t. rw (has-byte (is 62) s (p + 1) t)) (λ within t. rw (fails-byte (is 62) s (p + 1) within t)))
+          (outcome-one l s (after (names g)) (is 62) (p + 1) (ends .empties h) refl (λ t. refl) (λ t. rw (has-byte (is 62) s (p + 1) t))
+          (λ within t. rw (fails-byte (is 62) s (p + 1) within t)))
           (λ e q at-e. record { emptied = λ t. at-e .0; filled = λ t. absurd (true≢false t) }))
           (λ h.
           let greater : has (is 62) s p ≡ true = sym (has-second (is 47) (is 62) s p h) ∙ ends .ends-tag in
@@ -155,7 +173,9 @@ module _ (l : Limits) (s : List ℕ) where
       unfolding withNameAt
       going-with-name =
           outcome-then l s _ _ _ (nameAt classOf (l .part) s (i + 1)) (going-name l s naming (i + 1) name-before) (λ n q read.
-          outcome-then l s _ _ _ (attributesAt classOf s l (length s) [] (n .end)) (going-attributes l s (part s (i + 1) (n .end)) (names g) (length s) [] (n .end) (omega arith) (tagged-there n q read)) (λ p r ends.
+          outcome-then l s _ _ _ (attributesAt classOf s l (length s) [] (n .end))
+          (going-attributes l s (part s (i + 1) (n .end)) (names g) (length s) [] (n .end) (omega arith) (tagged-there n q read))
+          (λ p r ends.
           going-start-end n p ends))
 
     pub going-start : leb (l .levels) (depth g) ≡ false → Outcome l s (Started g i) (startAt classOf s l i)

@@ -1,93 +1,37 @@
 -- The machine does what the readers of text, of values and of comments do. Assumes nothing.
 use Prim.Native.Nat.{ℕ, zero, suc, _+_, _<_, _≤_}
 use mathlib.Core.Path.{_≡_, refl, sym, _∙_, ap, subst}
-use mathlib.Core.Bool.{Bool, true, false, cond, not, _&&_, _||_, and-false, true≢false}
+use mathlib.Core.Bool.{Bool, true, false, cond, _&&_, and-false, true≢false}
 use mathlib.Core.List.{List}
 use native.Mathlib.Omega.{arith}
 use lib.ListN.{length}
-use lib.Dec.{leb, eqb}
-use borrow.Author.Tests.{eqb-true, leb-true, le-leb}
+use lib.Dec.{eqb}
 use Rattle.message.specs.Class.{classOf, isText, isPlain, isPlainNote}
 use Rattle.message.specs.Reading.{is, isQuote, byteAt, has, one, ends}
 use Rattle.message.specs.Text.{specialAt, bracketAt, beyondPlainInAt, beyondPlainAt, beyondNoteAt, hyphensAt, textAt, valueAt, commentAt}
 use Rattle.message.specs.Characters.{longAt}
 use Rattle.message.specs.Limits.{Limits}
-use Rattle.message.proofs.Laws.{cond-cases, both-first, both-second, has-in, has-lt, has-byte, has-out, ends-from, ends-more, ends-stop}
+use Rattle.message.proofs.Laws.{cond-cases, both-first, both-second, has-in, has-lt, has-byte, ends-from, ends-more, ends-stop, fails-byte}
+use Rattle.message.proofs.Acting.{Acts, acting, acts-at, acts-has, acts-as, acts-only}
+use Rattle.message.proofs.Bytes.{other-than, has-other, quote-no-plain, tag-no-plain, bracket-no-plain, plain-text, note-no-hyphen}
+use Rattle.message.proofs.Runs.{ends-fails, byte-is}
 use Rattle.message.proofs.Progress.{beyond-plain-in-on, beyond-plain-on, beyond-note-on}
 use Rattle.message.proofs.Automaton.{inside, State, ground, note, value, dead, goes, step, leads, special, brackets}
 use Rattle.message.proofs.Dues.{due, At}
 use Rattle.message.proofs.Going.{dies, cut, Stuck, Outcome, outcome-then, outcome-as, at-has, at-ends}
-use Rattle.message.proofs.GoingCharacters.{byte-fails, Steps, Behind, going-one, going-long, going-special}
-
--- ---- plain bytes
-
--- a byte whose class is below k is no byte of a class from k on
-other-class : (k b : ℕ) → leb k (classOf b) ≡ false → (x : ℕ) → leb k (classOf x) ≡ true → is b x ≡ false
-other-class k b low x h = go (is b x) refl
-  where
-    go : (t : Bool) → is b x ≡ t → is b x ≡ false
-    go true e = absurd (true≢false (sym h ∙ ap (λ (y : ℕ). leb k (classOf y)) (eqb-true x b e) ∙ low))
-    go false e = e
-
-plain-text : (x : ℕ) → isPlain classOf x ≡ true → isText classOf x ≡ true
-plain-text x h = le-leb 1 (classOf x) (omega (arith, leb-true 2 (classOf x) h))
-
--- a quotation mark is marking
-quote-class : (q : ℕ) (t : Bool) → eqb q 34 ≡ t → (t || eqb q 39) ≡ true → isPlain classOf q ≡ false
-unfolding classOf
-quote-class q true e h = ap (isPlain classOf) (eqb-true q 34 e)
-quote-class q false e h = ap (isPlain classOf) (eqb-true q 39 h)
-
-plain-quote : (q : ℕ) → isQuote q ≡ true → (x : ℕ) → isPlain classOf x ≡ true → is q x ≡ false
-plain-quote q h = other-class 2 q (quote-class q (eqb q 34) refl h)
-
-opening-class : isPlain classOf 60 ≡ false
-unfolding classOf
-opening-class = refl
-
-bracket-class : isPlain classOf 93 ≡ false
-unfolding classOf
-bracket-class = refl
-
-has-other : (b : ℕ) → isPlain classOf b ≡ false → (s : List ℕ) (i : ℕ) → has (isPlain classOf) s i ≡ true → has (is b) s i ≡ false
-has-other b low s i h = has-in (is b) s i (has-lt (isPlain classOf) s i h) ∙ other-class 2 b low (byteAt s i) (has-byte (isPlain classOf) s i h)
-
--- a plain byte of a comment is no `-`
-note-plain : (x : ℕ) → isPlainNote classOf x ≡ true → is 45 x ≡ false
-note-plain x h = go (is 45 x) refl
-  where
-    other : not (is 45 x) ≡ true
-    other = both-second (isText classOf x || (is 60 x || is 38 x)) (not (is 45 x)) h
-
-    go : (t : Bool) → is 45 x ≡ t → is 45 x ≡ false
-    go true e = absurd (true≢false (sym (rw e at other)))
-    go false e = e
-
--- no byte that passes the test stands behind a run of such
-module _ (test : ℕ → Bool) (s : List ℕ) where
-  none-turn : (i : ℕ) (t : Bool) → has test s i ≡ t → (has test s i ≡ true → has test s (ends test s (i + 1)) ≡ false) → has test s (ends test s i) ≡ false
-  none-turn i true h next = rw (ends-more test s i h) (next h)
-  none-turn i false h next = rw (ends-stop test s i h) h
-
-  none-on : (n i : ℕ) → length s ≤ n + i → has test s (ends test s i) ≡ false
-  none-on zero i enough = let h = has-out test s i (omega arith) in rw (ends-stop test s i h) h
-  none-on (suc n) i enough = none-turn i (has test s i) refl (λ h. none-on n (i + 1) (omega arith))
-
-  pub ends-none : (i : ℕ) → has test s (ends test s i) ≡ false
-  ends-none i = none-on (length s) i (omega arith)
+use Rattle.message.proofs.GoingCharacters.{Behind, going-long, going-special}
 
 module _ (l : Limits) (s : List ℕ) where
   -- ---- what is no plain text, up to the place behind it
 
-  going-beyond-in : (k : State) {st : State} (i : ℕ) → Steps l s st i (cond (isText classOf (byteAt s i)) (goes k) (special k (byteAt s i))) → Outcome l s (λ e. At l s k e) (beyondPlainInAt classOf s i)
+  going-beyond-in : (k : State) (i : ℕ) → Acts l s (λ x. cond (isText classOf x) (goes k) (special k x)) i
+      → Outcome l s (λ e. At l s k e) (beyondPlainInAt classOf s i)
   unfolding beyondPlainInAt
-  going-beyond-in k i here =
+  going-beyond-in k i acts =
       cond-cases (Outcome l s (λ e. At l s k e)) (has (isText classOf) s i)
-      (λ t.
-      let below = has-lt (isText classOf) s i t in
-      at-has l s (isText classOf) i (here .0) t (here .2) (here .3 below ∙ rw (has-byte (isText classOf) s i t))) (λ t.
+      (λ t. acts-has l s acts (isText classOf) t (rw (has-byte (isText classOf) s i t))) (λ t.
       outcome-then l s (Behind l s k) (λ e. At l s k e) _ (specialAt s i)
-      (going-special l s k i (here .0) (here .1) (here .2) (λ below. here .3 below ∙ rw (byte-fails (isText classOf) s i t below))) (λ c q h. h))
+      (going-special l s k i (acts-as l s acts _ (λ below. rw (fails-byte (isText classOf) s i below t)))) (λ c q h. h))
 
   -- ---- values
 
@@ -95,10 +39,12 @@ module _ (l : Limits) (s : List ℕ) where
   abbrev Quoted : ℕ → State → ℕ → Type 0
   Quoted q st e = At l s st e × (has (is q) s e ≡ true)
 
-  value-stays : (q : ℕ) → isQuote q ≡ true → (n : List ℕ) (seen o : List (List ℕ)) (x : ℕ) → isPlain classOf x ≡ true → step (value q n seen o) x ≡ goes (value q n seen o)
-  value-stays q quotes n seen o x h = rw (plain-quote q quotes x h, plain-text x h)
+  value-stays : (q : ℕ) → isQuote q ≡ true → (n : List ℕ) (seen o : List (List ℕ)) (x : ℕ) → isPlain classOf x ≡ true
+      → step (value q n seen o) x ≡ goes (value q n seen o)
+  value-stays q quotes n seen o x h = rw (other-than (isPlain classOf) q (quote-no-plain q quotes) x h, plain-text x h)
 
-  pub going-value : (q : ℕ) → isQuote q ≡ true → (n : List ℕ) (seen o : List (List ℕ)) (fuel i : ℕ) → length s ≤ fuel + i → At l s (value q n seen o) i → Outcome l s (λ e. At l s (value q n seen o) e × (has (is q) s e ≡ true)) (valueAt classOf fuel q s i)
+  pub going-value : (q : ℕ) → isQuote q ≡ true → (n : List ℕ) (seen o : List (List ℕ)) (fuel i : ℕ) → length s ≤ fuel + i
+      → At l s (value q n seen o) i → Outcome l s (λ e. At l s (value q n seen o) e × (has (is q) s e ≡ true)) (valueAt classOf fuel q s i)
   unfolding valueAt
   going-value q quotes n seen o zero i enough here = (value q n seen o, here, cut (omega arith) refl)
   going-value q quotes n seen o (suc fuel) i enough here =
@@ -108,7 +54,7 @@ module _ (l : Limits) (s : List ℕ) where
       let further : i ≤ stop = ends-from (isPlain classOf) s i in
       cond-cases (Outcome l s (Quoted q st)) (has (is q) s stop) (λ t. (there, t)) (λ t.
       outcome-then l s (λ e. At l s st e) (Quoted q st) (valueAt classOf fuel q s) (beyondPlainInAt classOf s stop)
-      (going-beyond-in st stop (there, refl, refl, λ below. rw (byte-fails (is q) s stop t below))) (λ e w h.
+      (going-beyond-in st stop (acting l s there refl refl (λ below. rw (fails-byte (is q) s stop below t)))) (λ e w h.
       going-value q quotes n seen o fuel e (omega (arith, beyond-plain-in-on s stop classOf e w)) h))
 
   -- ---- text between tags
@@ -136,11 +82,12 @@ module _ (l : Limits) (s : List ℕ) where
     text-open : (b i : ℕ) → Safe b i → i < length s → (eqb b 2 && is 62 (byteAt s i)) ≡ false
     text-open zero i safe below = refl
     text-open (suc zero) i safe below = refl
-    text-open (suc (suc b)) i safe below = rw (byte-fails (is 62) s i (safe .1) below) (and-false (eqb (suc (suc b)) 2))
+    text-open (suc (suc b)) i safe below = rw (fails-byte (is 62) s i below (safe .1)) (and-false (eqb (suc (suc b)) 2))
 
     -- neither `<` nor `]`
-    text-step : (b i : ℕ) → Safe b i → has (is 60) s i ≡ false → has (is 93) s i ≡ false → i < length s → step (within b) (byteAt s i) ≡ cond (isText classOf (byteAt s i)) (goes (within 0)) (special (within 0) (byteAt s i))
-    text-step b i safe h h′ below = rw (byte-fails (is 60) s i h below, byte-fails (is 93) s i h′ below, text-open b i safe below)
+    text-step : (b i : ℕ) → Safe b i → has (is 60) s i ≡ false → has (is 93) s i ≡ false → i < length s
+        → step (within b) (byteAt s i) ≡ cond (isText classOf (byteAt s i)) (goes (within 0)) (special (within 0) (byteAt s i))
+    text-step b i safe h h′ below = rw (fails-byte (is 60) s i below h, fails-byte (is 93) s i below h′, text-open b i safe below)
 
     -- the text goes on at the place
     abbrev Text : ℕ → Type 0
@@ -149,19 +96,21 @@ module _ (l : Limits) (s : List ℕ) where
     -- one plain byte
     text-plain : (b i : ℕ) → Safe b i → At l s (within b) i → has (isPlain classOf) s i ≡ true → At l s (within 0) (i + 1)
     text-plain b i safe here t =
-        let not-60 = has-other 60 opening-class s i t in
-        let steps = text-step b i safe not-60 (has-other 93 bracket-class s i t) (has-lt (isPlain classOf) s i t) in
-        at-has l s (isPlain classOf) i here t (text-free b i not-60) (steps ∙ rw (plain-text (byteAt s i) (has-byte (isPlain classOf) s i t)))
+        let not-60 = has-other (isPlain classOf) 60 tag-no-plain s i t in
+        let steps = text-step b i safe not-60 (has-other (isPlain classOf) 93 bracket-no-plain s i t) (has-lt (isPlain classOf) s i t) in
+        at-has l s (isPlain classOf) i here t (text-free b i not-60)
+        (steps ∙ rw (plain-text (byteAt s i) (has-byte (isPlain classOf) s i t)))
 
     -- a run of plain bytes
     text-run : (i : ℕ) → Text i → Text (ends (isPlain classOf) s i)
     text-run i here = go (has (isPlain classOf) s i) refl
       where
         free : (j : ℕ) → has (isPlain classOf) s j ≡ true → due l s (within 0) j ≡ false
-        free j h = text-free 0 j (has-other 60 opening-class s j h)
+        free j h = text-free 0 j (has-other (isPlain classOf) 60 tag-no-plain s j h)
 
         stays : (x : ℕ) → isPlain classOf x ≡ true → step (within 0) x ≡ goes (within 0)
-        stays x h = rw (other-class 2 60 opening-class x h, other-class 2 93 bracket-class x h, plain-text x h)
+        stays x h =
+            rw (other-than (isPlain classOf) 60 tag-no-plain x h, other-than (isPlain classOf) 93 bracket-no-plain x h, plain-text x h)
 
         go : (t : Bool) → has (isPlain classOf) s i ≡ t → Text (ends (isPlain classOf) s i)
         go true t =
@@ -172,12 +121,14 @@ module _ (l : Limits) (s : List ℕ) where
     -- a `]`
     text-bracket : (b i : ℕ) → At l s (within b) i → has (is 93) s i ≡ true → At l s (within (brackets b)) (i + 1)
     text-bracket b i here h =
-        let x-is : byteAt s i ≡ 93 = eqb-true (byteAt s i) 93 (has-byte (is 93) s i h) in
+        let x-is : byteAt s i ≡ 93 = byte-is 93 s i h in
         let not-60 : is 60 (byteAt s i) ≡ false = ap (is 60) x-is in
-        at-has l s (is 93) i here h (text-free b i (has-in (is 60) s i (has-lt (is 93) s i h) ∙ not-60)) (rw (not-60, has-byte (is 93) s i h))
+        at-has l s (is 93) i here h (text-free b i (has-in (is 60) s i (has-lt (is 93) s i h) ∙ not-60))
+        (rw (not-60, has-byte (is 93) s i h))
 
     -- behind it, where `]>` does not follow
-    bracket-safe : (b i : ℕ) → Safe b i → has (is 93) s i ≡ true → (has (is 93) s (i + 1) && has (is 62) s (i + 2)) ≡ false → Safe (brackets b) (i + 1)
+    bracket-safe : (b i : ℕ) → Safe b i → has (is 93) s i ≡ true → (has (is 93) s (i + 1) && has (is 62) s (i + 2)) ≡ false
+        → Safe (brackets b) (i + 1)
     bracket-safe b i safe h none = go b safe
       where
         none′ : (has (is 93) s (i + 1) && has (is 62) s (i + 1 + 1)) ≡ false
@@ -189,14 +140,18 @@ module _ (l : Limits) (s : List ℕ) where
         go (suc (suc b)) safe = (none′, rw h at (safe .0))
 
     -- `]]` is behind, and the `>` that ends it is dead
-    text-dead : (b i : ℕ) → At l s (within b) i → has (is 93) s i ≡ true → (has (is 93) s (i + 1) && has (is 62) s (i + 2)) ≡ true → Stuck l s 9 (i + 2)
+    text-dead : (b i : ℕ) → At l s (within b) i → has (is 93) s i ≡ true → (has (is 93) s (i + 1) && has (is 62) s (i + 2)) ≡ true
+        → Stuck l s 9 (i + 2)
     unfolding classOf
     text-dead b i here h t =
         let h1 : has (is 93) s (i + 1) ≡ true = both-first (has (is 93) s (i + 1)) (has (is 62) s (i + 2)) t in
         let h2 : has (is 62) s (i + 2) ≡ true = both-second (has (is 93) s (i + 1)) (has (is 62) s (i + 2)) t in
-        let x-is : byteAt s (i + 2) ≡ 62 = eqb-true (byteAt s (i + 2)) 62 (has-byte (is 62) s (i + 2) h2) in
-        let there = text-bracket (brackets b) (i + 1) (text-bracket b i here h) h1 in
-        (within (brackets (brackets b)), subst (At l s (within (brackets (brackets b)))) (omega arith) there, dies (has-lt (is 62) s (i + 2) h2) (rw x-is (dead-at b)))
+        let x-is : byteAt s (i + 2) ≡ 62 = byte-is 62 s (i + 2) h2 in
+        let there = text-bracket (brackets b) (i + 1) (text-bracket b i here h) h1 in (
+          within (brackets (brackets b)),
+          subst (At l s (within (brackets (brackets b)))) (omega arith) there,
+          dies (has-lt (is 62) s (i + 2) h2) (rw x-is (dead-at b)),
+        )
       where
         dead-at : (b : ℕ) → step (within (brackets (brackets b))) 62 ≡ dead
         dead-at zero = refl
@@ -209,9 +164,11 @@ module _ (l : Limits) (s : List ℕ) where
         cond-cases (Outcome l s Text) (has (is 93) s (i + 1) && has (is 62) s (i + 2)) (λ u. text-dead (here .0) i (here .2) t u)
         (λ u. (brackets (here .0), bracket-safe (here .0) i (here .1) t u, text-bracket (here .0) i (here .2) t))) (λ t.
         outcome-as l s (λ e. At l s (within 0) e) Text (beyondPlainInAt classOf s i)
-        (going-beyond-in (within 0) i (here .2, refl, text-free (here .0) i h, text-step (here .0) i (here .1) h t)) (λ e q g. (0, tt, g)))
+        (going-beyond-in (within 0) i (acting l s (here .2) refl (text-free (here .0) i h) (text-step (here .0) i (here .1) h t)))
+        (λ e q g. (0, tt, g)))
 
-  pub going-text : (v : List ℕ) (o : List (List ℕ)) (fuel b i : ℕ) → length s ≤ fuel + i → Safe b i → At l s (ground (inside b v o)) i → Outcome l s (λ e. (b′ : ℕ) × At l s (ground (inside b′ v o)) e × (has (is 60) s e ≡ true)) (textAt classOf fuel s i)
+  pub going-text : (v : List ℕ) (o : List (List ℕ)) (fuel b i : ℕ) → length s ≤ fuel + i → Safe b i → At l s (ground (inside b v o)) i
+      → Outcome l s (λ e. (b′ : ℕ) × At l s (ground (inside b′ v o)) e × (has (is 60) s e ≡ true)) (textAt classOf fuel s i)
   unfolding textAt
   going-text v o zero b i enough safe here = (ground (inside b v o), here, cut (omega arith) refl)
   going-text v o (suc fuel) b i enough safe here =
@@ -236,9 +193,10 @@ module _ (l : Limits) (s : List ℕ) where
     Noted i = (h : ℕ) × Quiet h i × At l s (note h k) i
 
     -- no `-`
-    note-step : (h i : ℕ) → Quiet h i → has (is 45) s i ≡ false → i < length s → step (note h k) (byteAt s i) ≡ cond (isPlainNote classOf (byteAt s i)) (goes (note 0 k)) (leads (note 0 k) (byteAt s i))
-    note-step zero i quiet none below = rw (byte-fails (is 45) s i none below)
-    note-step (suc zero) i quiet none below = rw (byte-fails (is 45) s i none below)
+    note-step : (h i : ℕ) → Quiet h i → has (is 45) s i ≡ false → i < length s
+        → step (note h k) (byteAt s i) ≡ cond (isPlainNote classOf (byteAt s i)) (goes (note 0 k)) (leads (note 0 k) (byteAt s i))
+    note-step zero i quiet none below = rw (fails-byte (is 45) s i below none)
+    note-step (suc zero) i quiet none below = rw (fails-byte (is 45) s i below none)
     note-step (suc (suc h)) i quiet none below = absurd quiet
 
     note-hyphen : (h i : ℕ) → Quiet h i → At l s (note h k) i → has (is 45) s i ≡ true → At l s (note 1 k) (i + 1)
@@ -257,9 +215,9 @@ module _ (l : Limits) (s : List ℕ) where
             rw (ends-more (isPlainNote classOf) s i t) (
               0,
               tt,
-              at-ends l s (isPlainNote classOf) (λ j h. refl) (λ x h. rw (h, note-plain x h)) (i + 1)
+              at-ends l s (isPlainNote classOf) (λ j h. refl) (λ x h. rw (h, note-no-hyphen x h)) (i + 1)
                   (at-has l s (isPlainNote classOf) i (here .2) t refl
-                  (note-step (here .0) i (here .1) (has-in (is 45) s i below ∙ note-plain (byteAt s i) x-is) below ∙ rw x-is)),
+                  (note-step (here .0) i (here .1) (has-in (is 45) s i below ∙ note-no-hyphen (byteAt s i) x-is) below ∙ rw x-is)),
             )
         go false t = rw (ends-stop (isPlainNote classOf) s i t) here
 
@@ -272,7 +230,7 @@ module _ (l : Limits) (s : List ℕ) where
         subst (At l s (note 2 k)) (omega arith)
         (at-has l s (is 45) (i + 1) (note-hyphen (here .0) i (here .1) (here .2) h1) h2 refl (rw (has-byte (is 45) s (i + 1) h2))) in
         outcome-as l s (λ e. At l s k e × (e ≡ i + 2 + 1)) (λ e. At l s k e) (one (is 62) s (i + 2))
-        (going-one l s k (is 62) (i + 2) (there, refl, refl, λ below. refl)) (λ e q h. h .0)
+        (acts-only l s k (is 62) (i + 2) (acts-at l s (note 2 k) (i + 2) there refl refl)) (λ e q h. h .0)
 
     -- what is no plain byte
     note-beyond : (i : ℕ) → Noted i → has (isPlainNote classOf) s i ≡ false → hyphensAt s i ≡ false → Outcome l s Noted (beyondNoteAt s i)
@@ -280,8 +238,8 @@ module _ (l : Limits) (s : List ℕ) where
     note-beyond i here none single =
         cond-cases (Outcome l s Noted) (has (is 45) s i) (λ t. (1, rw t at single, note-hyphen (here .0) i (here .1) (here .2) t)) (λ t.
         outcome-then l s (Behind l s (note 0 k)) Noted _ (longAt s i)
-        (going-long l s (note 0 k) i (here .2) refl refl
-        (λ below. note-step (here .0) i (here .1) t below ∙ rw (byte-fails (isPlainNote classOf) s i none below))) (λ c q h. (0, tt, h)))
+        (going-long l s (note 0 k) i (acting l s (here .2) refl refl
+        (λ below. note-step (here .0) i (here .1) t below ∙ rw (fails-byte (isPlainNote classOf) s i below none)))) (λ c q h. (0, tt, h)))
 
     note-loop : (fuel i : ℕ) → length s ≤ fuel + i → Noted i → Outcome l s (λ e. At l s k e) (commentAt classOf fuel s i)
     unfolding commentAt
@@ -292,8 +250,9 @@ module _ (l : Limits) (s : List ℕ) where
         let further : i ≤ stop = ends-from (isPlainNote classOf) s i in
         cond-cases (Outcome l s (λ e. At l s k e)) (hyphensAt s stop) (λ t. note-end stop there t) (λ t.
         outcome-then l s Noted (λ e. At l s k e) (commentAt classOf fuel s) (beyondNoteAt s stop)
-        (note-beyond stop there (ends-none (isPlainNote classOf) s i) t) (λ e w h.
+        (note-beyond stop there (ends-fails (isPlainNote classOf) s i) t) (λ e w h.
         note-loop fuel e (omega (arith, beyond-note-on s stop e w)) h))
 
-  pub going-comment : (k : State) (fuel i : ℕ) → length s ≤ fuel + i → At l s (note 0 k) i → Outcome l s (λ e. At l s k e) (commentAt classOf fuel s i)
+  pub going-comment : (k : State) (fuel i : ℕ) → length s ≤ fuel + i → At l s (note 0 k) i
+      → Outcome l s (λ e. At l s k e) (commentAt classOf fuel s i)
   going-comment k fuel i enough here = note-loop k fuel i enough (0, tt, here)

@@ -26,14 +26,16 @@ module _ (l l′ : Limits) where
   Kept r r′ = (r ≡ r′) ⊎ ((n : ℕ) × (p : ℕ) × Raised l l′ n × (r ≡ refused n p))
 
   -- the second reading is asked only where the first is whole
-  pub kept-then : {A B : Type 0} (next next′ : A → Reading B) {a a′ : Reading A} → Kept a a′ → ((x : A) → a ≡ whole x → Kept (next x) (next′ x))
+  pub kept-then : {A B : Type 0} (next next′ : A → Reading B) {a a′ : Reading A} → Kept a a′
+      → ((x : A) → a ≡ whole x → Kept (next x) (next′ x))
       → Kept (a >>= next) (a′ >>= next′)
   kept-then next next′ {a = whole x} (inl e) g = rw (← e) (g x refl)
   kept-then next next′ {a = refused n p} (inl e) g = rw (← e) (inl refl)
   kept-then next next′ (inr w) g = inr (w .0, w .1, w .2, sym (stopped next (w .3)))
 
   -- after a reading that takes no limits
-  pub kept-on : {A B : Type 0} (next next′ : A → Reading B) (a : Reading A) → ((x : A) → Kept (next x) (next′ x)) → Kept (a >>= next) (a >>= next′)
+  pub kept-on : {A B : Type 0} (next next′ : A → Reading B) (a : Reading A) → ((x : A) → Kept (next x) (next′ x))
+      → Kept (a >>= next) (a >>= next′)
   kept-on next next′ a g = kept-then next next′ {a = a} (inl refl) (λ x q. g x)
 
   -- what was read whole is read with raised limits too
@@ -85,7 +87,8 @@ module _ (l l′ : Limits) where
         roomIn : Bool → Reading ℕ
         roomIn t = cond t (whole p) (refused 11 p)
 
-        go : (t : Bool) → ltb (length seen) (l .attributes) ≡ t → (t′ : Bool) → ltb (length seen) (l′ .attributes) ≡ t′ → Kept (roomIn t) (roomIn t′)
+        go : (t : Bool) → ltb (length seen) (l .attributes) ≡ t → (t′ : Bool) → ltb (length seen) (l′ .attributes) ≡ t′
+            → Kept (roomIn t) (roomIn t′)
         go true e true e′ = inl refl
         go true e false e′ =
             absurd (omega (arith, up .attributes, ltb-true (length seen) (l .attributes) e, ltb-false (length seen) (l′ .attributes) e′))
@@ -96,7 +99,8 @@ module _ (l l′ : Limits) where
         room : Kept (roomIn (ltb (length seen) (l .attributes))) (roomIn (ltb (length seen) (l′ .attributes)))
         room = go (ltb (length seen) (l .attributes)) refl (ltb (length seen) (l′ .attributes)) refl
 
-    pub kept-attributes : (fuel : ℕ) (seen : List (List ℕ)) (at : ℕ) → Kept (attributesAt class s l fuel seen at) (attributesAt class s l′ fuel seen at)
+    pub kept-attributes : (fuel : ℕ) (seen : List (List ℕ)) (at : ℕ)
+        → Kept (attributesAt class s l fuel seen at) (attributesAt class s l′ fuel seen at)
     unfolding attributesAt
     kept-attributes zero seen at = inl refl
     kept-attributes (suc fuel) seen at =
@@ -166,7 +170,8 @@ module _ (l l′ : Limits) where
     kept-element (suc depth) zero at h own = absurd (omega arith)
     kept-element (suc depth) (suc depth′) at h own =
         kept-then _ _ (kept-start at) (λ st q.
-        kept-rest (elementAt class s l depth) (elementAt class s l′ depth′) (λ from. kept-element depth depth′ from (omega arith) (λ g. own (omega arith))) st)
+        kept-rest (elementAt class s l depth) (elementAt class s l′ depth′)
+        (λ from. kept-element depth depth′ from (omega arith) (λ g. own (omega arith))) st)
 
     -- ---- messages
 
@@ -179,4 +184,5 @@ module _ (l l′ : Limits) where
     pub kept-document : (at : ℕ) → Kept (documentAt class s l at) (documentAt class s l′ at)
     unfolding documentAt
     kept-document at =
-        kept-over 8 0 (length s) (l .bytes) (l′ .bytes) (up .bytes) more-bytes _ _ (kept-on _ _ (cond (eqb at 0) (declaredOf class s) (whole at)) kept-root)
+        kept-over 8 0 (length s) (l .bytes) (l′ .bytes) (up .bytes) more-bytes _ _
+        (kept-on _ _ (cond (eqb at 0) (declaredOf class s) (whole at)) kept-root)

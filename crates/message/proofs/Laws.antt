@@ -12,6 +12,7 @@ use lib.ListN.{length, drop, drop-of-length-le, length-drop}
 use lib.Seq.{drop-cons}
 use lib.Dec.{ltb, leb, eqb}
 use borrow.Author.Tests.{lt-ltb, le-ltb, le-leb, lt-leb, eq-eqb, ne-eqb, ltb-true, leb-true}
+use Rattle.laws.proofs.Tests.{true-false, and-last}
 use Rattle.message.specs.Class.{between}
 use Rattle.message.specs.Reading.{Reading, _>>=_, is, has, one, span, ends, upTo, wordAt, byteAt}
 use Rattle.message.specs.Reading.Reading.{whole, refused}
@@ -29,7 +30,8 @@ module _ {A B : Type 0} (next : A → Reading B) {a : Reading A} where
   stopped h = rw h
 
 -- two characters that end at one place and have one number
-pub same-code : {e c c′ : ℕ} → c ≡ c′ → _≡_ {A = Reading characters.Character} (whole (record { end = e; code = c })) (whole (record { end = e; code = c′ }))
+pub same-code : {e c c′ : ℕ} → c ≡ c′
+    → _≡_ {A = Reading characters.Character} (whole (record { end = e; code = c })) (whole (record { end = e; code = c′ }))
 same-code h = rw h
 
 -- ---- tests
@@ -61,9 +63,17 @@ pub cond-cases : {A : Type 0} (P : A → Type 0) {x y : A} (t : Bool) → (t ≡
 cond-cases P true p q = p refl
 cond-cases P false p q = q refl
 
+-- on either way
+pub cond-both : {A : Type 0} (P : A → Type 0) {x y : A} (t : Bool) → P x → P y → P (cond t x y)
+cond-both P t p q = cond-cases P t (λ e. p) (λ e. q)
+
 pub both-first : (a b : Bool) → (a && b) ≡ true → a ≡ true
 both-first true b e = refl
 both-first false b e = e
+
+pub both-second : (a b : Bool) → (a && b) ≡ true → b ≡ true
+both-second true b e = e
+both-second false b e = absurd (true-false refl (sym e))
 
 -- ---- one byte, and as many as pass a test
 
@@ -104,6 +114,9 @@ module _ (test : ℕ → Bool) (s : List ℕ) (at : ℕ) where
   -- what the test says of the byte there
   pub has-byte : has test s at ≡ true → test (byteAt s at) ≡ true
   has-byte e = sym (has-in (has-lt e)) ∙ e
+
+  pub fails-byte : at < length s → has test s at ≡ false → test (byteAt s at) ≡ false
+  fails-byte h e = sym (has-in h) ∙ e
 
   pub one-yes : has test s at ≡ true → one test s at ≡ whole (at + 1)
   unfolding one
@@ -187,14 +200,16 @@ module _ (test : ℕ → Bool) (s : List ℕ) where
   ends-all zero at = λ h. rw add-zero
   ends-all (suc k) at =
       cond-cases (λ n. n ≡ suc k → ends test s (at + suc k) ≡ ends test s at) (has test s at)
-      (λ t h. ap (ends test s) (omega arith) ∙ ends-all k (at + 1) (omega arith) ∙ sym (ends-more test s at t)) (λ t h. absurd (omega arith))
+      (λ t h. ap (ends test s) (omega arith) ∙ ends-all k (at + 1) (omega arith) ∙ sym (ends-more test s at t))
+      (λ t h. absurd (omega arith))
 
   ends-some : (k at : ℕ) → (upTo k test s at ≡ k → ⊥) → at + upTo k test s at ≡ ends test s at
   unfolding upTo
   ends-some zero at = λ h. absurd (h refl)
   ends-some (suc k) at =
       cond-cases (λ n. (n ≡ suc k → ⊥) → at + n ≡ ends test s at) (has test s at)
-      (λ t h. omega (arith, ends-some k (at + 1) (λ e. h (omega arith)), ends-more test s at t)) (λ t h. omega (arith, ends-stop test s at t))
+      (λ t h. omega (arith, ends-some k (at + 1) (λ e. h (omega arith)), ends-more test s at t))
+      (λ t h. omega (arith, ends-stop test s at t))
 
   module _ (k at : ℕ) {n : ℕ} (n-is : n ≡ upTo k test s at) where
     pub up-in : n ≤ length s - at
@@ -207,10 +222,6 @@ module _ (test : ℕ → Bool) (s : List ℕ) where
     -- not all do, and it ends behind those that do
     pub up-some : (n ≡ k → ⊥) → at + n ≡ ends test s at
     up-some h = ap (λ (m : ℕ). at + m) n-is ∙ ends-some k at (λ e. h (n-is ∙ e))
-
-pub both-second : (a b : Bool) → (a && b) ≡ true → b ≡ true
-both-second true b e = e
-both-second false b e = let z : _≡_ {A = ℕ} 0 1 = cc in absurd (omega arith)
 
 -- ---- a byte of a range
 
@@ -226,11 +237,7 @@ module _ (low high x : ℕ) where
   between-below h = rw (lt-leb low x h)
 
   pub between-above : high < x → between low high x ≡ false
-  between-above h = go (leb low x)
-    where
-      go : (t : Bool) → (t && leb x high) ≡ false
-      go true = lt-leb x high h
-      go false = refl
+  between-above h = and-last (leb low x) (lt-leb x high h)
 
 module _ (low high : ℕ) (s : List ℕ) (at : ℕ) where
   pub has-between : has (between low high) s at ≡ true → (at < length s) × (low ≤ byteAt s at) × (byteAt s at ≤ high)
@@ -238,7 +245,8 @@ module _ (low high : ℕ) (s : List ℕ) (at : ℕ) where
       let b = between-both low high (byteAt s at) (has-byte (between low high) s at h) in
       (has-lt (between low high) s at h, b .0, b .1)
 
-  pub one-between : (e : ℕ) → one (between low high) s at ≡ whole e → (at < length s) × (low ≤ byteAt s at) × (byteAt s at ≤ high) × (e ≡ at + 1)
+  pub one-between : (e : ℕ) → one (between low high) s at ≡ whole e
+      → (at < length s) × (low ≤ byteAt s at) × (byteAt s at ≤ high) × (e ≡ at + 1)
   one-between e q =
       let o = one-has (between low high) s at e q in
       let b = has-between (o .0) in

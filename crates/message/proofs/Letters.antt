@@ -1,5 +1,5 @@
--- Texts letter by letter: what `attributeMeaning` and `contentMeaning` give is what `ValueSays` and `ContentSays` say, and their fuel is enough.
--- Assumes nothing.
+-- Texts letter by letter: what `attributeMeaning` and `contentMeaning` give is what `ValueSays` and `ContentSays` say, and their fuel is
+-- enough. Assumes nothing.
 use Prim.Native.Nat.{ℕ, zero, suc, _+_, _<_, _≤_}
 use mathlib.Core.Path.{_≡_, refl, sym, _∙_, subst}
 use mathlib.Core.Bool.{Bool, true, false, cond, _&&_}
@@ -37,7 +37,8 @@ module _ (class : ℕ → ℕ) (s : List ℕ) (at : ℕ) where
   past-letter : PastCharacter (length s) at (letterAt class s at)
   unfolding letterAt
   past-letter =
-      cond-cases (PastCharacter (length s) at) (has (isText class) s at) (λ t. omega (arith, has-lt (isText class) s at t)) (λ t. past-special s at at (omega arith))
+      cond-cases (PastCharacter (length s) at) (has (isText class) s at) (λ t. omega (arith, has-lt (isText class) s at t))
+      (λ t. past-special s at at (omega arith))
 
   past-attribute-letter : PastCharacter (length s) at (attributeLetterAt class s at)
   unfolding attributeLetterAt
@@ -115,7 +116,8 @@ module _ (s : List ℕ) where
 
     -- ---- values
 
-    letter-said : (at : ℕ) (c : Character) (text : List ℕ) → at < to → attributeLetterAt classOf s at ≡ whole c → ValueSays s to (c .end) text
+    letter-said : (at : ℕ) (c : Character) (text : List ℕ) → at < to → attributeLetterAt classOf s at ≡ whole c
+        → ValueSays s to (c .end) text
         → ValueSays s to at (c .code ∷ text)
     letter-said at c text within q = go (has isBreak s at) refl
       where
@@ -139,7 +141,8 @@ module _ (s : List ℕ) where
         letters c = attributeMeaning classOf s fuel to (c .end) >>= (λ codes. whole (c .code ∷ codes))
 
         go : ((from : ℕ) (codes : List ℕ) → attributeMeaning classOf s fuel to from ≡ whole codes → ValueSays s to from codes)
-            → (t : Bool) → ltb at to ≡ t → cond t (attributeLetterAt classOf s at >>= letters) (whole []) ≡ whole text → ValueSays s to at text
+            → (t : Bool) → ltb at to ≡ t → cond t (attributeLetterAt classOf s at >>= letters) (whole []) ≡ whole text
+            → ValueSays s to at text
         go further true within e =
             let x = then-whole letters (attributeLetterAt classOf s at) text e in
             let y = then-whole (λ codes. whole (x .0 .code ∷ codes)) (attributeMeaning classOf s fuel to (x .0 .end)) text (x .2) in
@@ -155,7 +158,8 @@ module _ (s : List ℕ) where
     value-end at out zero some enough = absurd (omega arith)
     value-end at out (suc fuel) some enough = rw (le-ltb at to out)
 
-    value-letter : (at : ℕ) (c : Character) (text : List ℕ) → at < to → attributeLetterAt classOf s at ≡ whole c → Given valueMeaning (c .end) text
+    value-letter : (at : ℕ) (c : Character) (text : List ℕ) → at < to → attributeLetterAt classOf s at ≡ whole c
+        → Given valueMeaning (c .end) text
         → Given valueMeaning at (c .code ∷ text)
     unfolding attributeMeaning
     value-letter at c text within q rest zero some enough = absurd (omega arith)
@@ -228,7 +232,8 @@ module _ (s : List ℕ) where
     content-end at out zero some enough = absurd (omega arith)
     content-end at out (suc fuel) some enough = rw (le-ltb at to out)
 
-    content-comment : (at e : ℕ) (text : List ℕ) → at < to → has (is 60) s at ≡ true → bangAt classOf s at ≡ whole e → Given textMeaning e text
+    content-comment : (at e : ℕ) (text : List ℕ) → at < to → has (is 60) s at ≡ true → bangAt classOf s at ≡ whole e
+        → Given textMeaning e text
         → Given textMeaning at text
     unfolding contentMeaning
     content-comment at e text within h q rest zero some enough = absurd (omega arith)

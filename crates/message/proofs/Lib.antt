@@ -1,67 +1,78 @@
--- `Laws` and `Digits` are about single readings, `Runs` about bytes that are known and runs of them, `Parts` about parts of the message; `ClassTable` computes the table.
--- `Progress`, `MarkupLoop` and `Trees` show that what is read whole ends past where it began, `Loops` what a loop over a reader keeps, and `Facts` that each element is what is
--- read again at its place. `ByForm` and `Numbers` tell the numbers of refusal, of the readers that take no limits and of those that do.
--- `Kept` says what raised limits change, and `Raising` proves specs/Raised. `Meanings` proves promise 6, with `Letters` about texts, `Breaks` about tabs and line ends and `Decimals` about
--- numbers in them; `References` proves what references are read as, and `BeyondAscii` that a character of more than one byte lies beyond ASCII.
--- `Sound` is what holds in every state of the machine of `Automaton`, `Inverse` what a comment and end tags behind it say of a state, and `Alive` that the machine went through all
--- that is before it. `TagInverse` and `PartInverse` lead back from what specs/Readable says by readers to the state of the machine.
--- `Seven`, `Delimited` and `NamesStand` prove the promises of specs/Seven: `Numbers` tells the numbers of refusal, `Within` the elements of a message, `Carried` what their start
--- tags carry, `Shown` what is shown of values, `Unquoted` what values hold, and `Repeated` that end tags repeat names.
+-- Base laws. `Laws` and `Digits` are about single readings, `Bytes` about single bytes, `Runs` about bytes that are known and runs of them, `Parts`
+-- about parts of the message, and `ClassTable` computes the table of classes. `Progress`, `MarkupLoop` and `Trees` show that what is read whole ends
+-- past where it began, `Loops` what a loop over a reader keeps, and `Facts` that each element is what is read again at its place. `Words` is about
+-- words that were read, `Shapes` about names. `ByForm` and `Numbers` tell the numbers of refusal, of the readers that take no limits and of those that
+-- do, and `Kept` what raised limits change. `Letters` is about texts, with `Breaks` about their line ends, and `Decimals` about numbers in them. `Within` tells the elements of a message,
+-- `Carried` what their start tags carry, `Shown` what is shown of values, `Unquoted` what values hold, `Repeated` that end tags repeat names, and `ByKind` that behind the document only
+-- 13 is left.
+-- The machine. `Automaton` is a machine that goes through a message byte by byte, `Dues` what is due in its states, and `Ways` how it comes to a place.
+-- `Endings` brings each of its states to an end, `Openings` shows that nothing does so behind an opening of 12, `Past` that it never comes back to its
+-- start, `Sound` what holds in every state, and `Inverse` what a comment and end tags behind it say of a state.
+-- The machine and the readers. `Going` and `Acting` say what it is that the machine does what a reader does, and `GoingNames`, `GoingCharacters`,
+-- `GoingText`, `GoingQuotes`, `GoingAttributes`, `GoingMarkup`, `GoingDeclaration`, `GoingStarts`, `GoingEndTags` and `GoingElements` show it of each
+-- reader up to whole messages. So `Accepted` tells readable messages, and bytes that can be continued, by the machine. `Alive` shows that it went
+-- through all that is before it, and `TagInverse` and `PartInverse` lead back from what specs/Readable says by readers to its state. `Spelling` says the
+-- openings of 12 in both ways, `Causes` that what stops the machine is due, and `Blocked` that it does not go past what is due.
+-- The promises. `Nine` proves specs/Nine, `Raising` specs/Raised, `Earliest` specs/Places and specs/Earliest, `Seven`, `Delimited` and `NamesStand`
+-- specs/Seven, and `Meanings`, `References` and `BeyondAscii` specs/Meanings.
 pub mod Laws
 pub mod Digits
+pub mod Bytes
 pub mod Runs
 pub mod Parts
 pub mod ClassTable
 pub mod Progress
-pub mod Loops
 pub mod MarkupLoop
 pub mod Trees
+pub mod Loops
 pub mod Facts
-pub mod Automaton
-pub mod Dues
-pub mod Going
-pub mod Acting
-pub mod GoingNames
-pub mod GoingAttributes
-pub mod Kept
+pub mod Words
+pub mod Shapes
 pub mod ByForm
-pub mod Raising
+pub mod Numbers
+pub mod Kept
 pub mod Breaks
 pub mod Letters
 pub mod Decimals
-pub mod Meanings
+pub mod Within
+pub mod Carried
+pub mod Shown
+pub mod Unquoted
+pub mod Repeated
+pub mod ByKind
+pub mod Automaton
+pub mod Dues
+pub mod Ways
+pub mod Endings
+pub mod Openings
+pub mod Past
+pub mod Sound
+pub mod Inverse
+pub mod Going
+pub mod Acting
+pub mod GoingNames
 pub mod GoingCharacters
 pub mod GoingText
 pub mod GoingQuotes
+pub mod GoingAttributes
 pub mod GoingMarkup
 pub mod GoingDeclaration
 pub mod GoingStarts
 pub mod GoingEndTags
 pub mod GoingElements
 pub mod Accepted
-pub mod ByKind
-pub mod Nine
-pub mod Spelling
-pub mod References
-pub mod BeyondAscii
-pub mod Causes
-pub mod Blocked
-pub mod Earliest
-pub mod Sound
-pub mod Inverse
 pub mod Alive
-pub mod Endings
-pub mod Ways
-pub mod Past
-pub mod Openings
-pub mod Numbers
-pub mod Carried
-pub mod Within
-pub mod Shown
-pub mod Seven
-pub mod Unquoted
-pub mod Delimited
-pub mod Repeated
-pub mod NamesStand
 pub mod TagInverse
 pub mod PartInverse
+pub mod Spelling
+pub mod Causes
+pub mod Blocked
+pub mod Nine
+pub mod Raising
+pub mod Earliest
+pub mod Seven
+pub mod Delimited
+pub mod NamesStand
+pub mod Meanings
+pub mod References
+pub mod BeyondAscii

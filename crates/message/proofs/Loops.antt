@@ -14,9 +14,9 @@ use Rattle.message.specs.Text.{beyondPlainInAt, beyondPlainAt, beyondNot
 use Rattle.message.proofs.Laws.{stopped, cond-false, and-false, has-out, ends-from, ends-out}
 use Rattle.message.proofs.Progress.{beyond-plain-in-out, beyond-plain-out, beyond-note-out}
 
--- A reader with fuel, of a message of n bytes. It stands at a P, which is at a place of the message. A turn of it first goes on to a stop, as behind a
--- run of bytes that it need not look at, and there takes a step, which may go on to another P. Where the fuel may be used up, at the end of the message,
--- none gives what one turn gives.
+-- A reader with fuel, of a message of n bytes. It stands at a P, which is at a place of the message. A turn of it first goes on to a stop,
+-- as behind a run of bytes that it need not look at, and there takes a step, which may go on to another P. Where the fuel may be used up,
+-- at the end of the message, none gives what one turn gives.
 pub record Fuelled (P B : Type 0) : Type 0 where
   pub n : ℕ
   pub place : P → ℕ
@@ -50,12 +50,14 @@ module _ {P B : Type 0} (F : Fuelled P B) where
         before : F .place p ≤ F .place i
         before = omega (arith, F .on p, ap (F .place) (left .1))
 
-        go : (fuel : ℕ) → F .n ≤ fuel + F .place p → F .reads fuel p ≡ answer → (fuel : ℕ) × (F .n ≤ fuel + (F .place i + 1)) × (F .step i (F .reads fuel) ≡ answer)
+        go : (fuel : ℕ) → F .n ≤ fuel + F .place p → F .reads fuel p ≡ answer
+            → (fuel : ℕ) × (F .n ≤ fuel + (F .place i + 1)) × (F .step i (F .reads fuel) ≡ answer)
         go zero enough gives = (zero, omega (arith, before), at-stop zero ∙ sym (F .ended p (omega arith)) ∙ gives)
         go (suc fuel) enough gives = (fuel, omega (arith, before), at-stop fuel ∙ sym (F .turn fuel p) ∙ gives)
 
     -- the step at i goes on to q: then to q's stop
-    pub left-on : {j : P} (q : P) → j ≡ F .stop q → F .place i < F .place q → ((next : P → Reading B) → next q ≡ F .step i next) → Left answer i → Left answer j
+    pub left-on : {j : P} (q : P) → j ≡ F .stop q → F .place i < F .place q → ((next : P → Reading B) → next q ≡ F .step i next)
+        → Left answer i → Left answer j
     left-on q j-is further goes left =
         let m = more left in
         (q, j-is, m .0, omega (arith, m .1), goes (F .reads (m .0)) ∙ m .2)
@@ -129,7 +131,8 @@ module _ (class : ℕ → ℕ) (quote : ℕ) (s : List ℕ) where
   pub value-ended : (p : ℕ) → length s ≤ p → valueAt class 0 quote s p ≡ value-step (ends (isPlain class) s p) (valueAt class 0 quote s)
   unfolding valueAt
   value-ended p end =
-      rw (ends-out (isPlain class) s p end) (stopped _ (sym (beyond-plain-in-out s p end class)) ∙ cond-false _ (has-out (is quote) s p end))
+      rw (ends-out (isPlain class) s p end)
+      (stopped _ (sym (beyond-plain-in-out s p end class)) ∙ cond-false _ (has-out (is quote) s p end))
 
   abbrev pub values : Fuelled ℕ ℕ
   values = record {

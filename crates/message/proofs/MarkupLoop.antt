@@ -1,5 +1,5 @@
--- Comments with their `<!--` and their end, and the loop over white space and comments around the root: what is read whole ends past where it began, so
--- the loop ends, and the fuel of its reader is enough. Assumes nothing.
+-- Comments with their `<!--` and their end, and the loop over white space and comments around the root: what is read whole ends past where
+-- it began, so the loop ends, and the fuel of its reader is enough. Assumes nothing.
 use Prim.Native.Nat.{ℕ, zero, suc, _+_, _-_, _<_, _≤_}
 use mathlib.Core.Path.{_≡_, refl, sym, _∙_}
 use mathlib.Core.Bool.{false, cond, _||_}
@@ -24,7 +24,8 @@ module _ (class : ℕ → ℕ) (s : List ℕ) where
         let stop = ends (isPlainNote class) s at in
         let on : k ≤ stop = omega (arith, ends-from (isPlainNote class) s at) in
         cond-cases (PastPlace (length s) k) (hyphensAt s stop) (λ t. past-one s k (is 62) (stop + 2) (omega arith)) (λ t.
-        past-then (λ e. e) (λ e. e) (length s) k _ (beyondNoteAt s stop) (past-beyond-note s k stop on) (λ e p q. past-comment fuel e (omega arith)))
+        past-then (λ e. e) (λ e. e) (length s) k _ (beyondNoteAt s stop) (past-beyond-note s k stop on)
+        (λ e p q. past-comment fuel e (omega arith)))
 
     pub past-bang : (at : ℕ) → k ≤ at → PastPlace (length s) k (bangAt class s at)
     unfolding bangAt

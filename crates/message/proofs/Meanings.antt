@@ -37,7 +37,8 @@ value-whole s from to text says = value-given s to says (suc (length s)) (omega 
 content-whole : (s : List ℕ) (from to : ℕ) (text : List ℕ) → ContentSays s to from text → contentOf s from to ≡ whole text
 content-whole s from to text says = content-given s to says (suc (length s)) (omega arith) (omega arith)
 
-number-was : (meaning : Reading (List ℕ)) (n : ℕ) → numberOf meaning ≡ Names n → (text : List ℕ) × (meaning ≡ whole text) × (decimalOf text ≡ Names n)
+number-was : (meaning : Reading (List ℕ)) (n : ℕ) → numberOf meaning ≡ Names n
+    → (text : List ℕ) × (meaning ≡ whole text) × (decimalOf text ≡ Names n)
 number-was (whole text) n q = (text, refl, q)
 number-was (refused number place) n q = let z : _≡_ {A = ℕ} 0 1 = cc in absurd (omega arith)
 
@@ -119,7 +120,8 @@ pub types-mean : TypesMean
 types-mean s inside from to = record {
   unreadable = type-was s inside from to;
   is-unreadable = λ empty says.
-      ap (λ (e : Elements). typeAdvice classOf s e from to) empty ∙ ap adviceOf (content-whole s from to unreadableMessage says) ∙ unreadable-is;
+      ap (λ (e : Elements). typeAdvice classOf s e from to) empty ∙ ap adviceOf (content-whole s from to unreadableMessage says)
+      ∙ unreadable-is;
 }
 
 -- ---- the URIs as document 01 writes them

@@ -14,16 +14,16 @@ use Rattle.message.specs.Seven.Local.{undivided, divided}
 use Rattle.message.proofs.Laws.{ends-from}
 use Rattle.message.proofs.Runs.{byte-is, start-in-name}
 use Rattle.message.proofs.Unquoted.{Free, free-none, free-run}
-use Rattle.message.proofs.GoingEndTags.{Shape, name-shape}
-use Rattle.message.proofs.GoingEndTags.Shape.{single, double}
+use Rattle.message.proofs.Shapes.{Shape, name-shape}
+use Rattle.message.proofs.Shapes.Shape.{single, double}
 
 -- no colon stands in a part of a name
 part-free : (s : List ℕ) (at end : ℕ) → end ≡ ends (isName classOf) s at → Free s 58 at end
 unfolding classOf
 part-free s at end h = subst (Free s 58 at) (sym h) (free-run s 58 (isName classOf) refl (length s) at at (omega arith) (free-none s 58 at))
 
-shape-local : (s : List ℕ) (at : ℕ) (name : Named) → Shape s at name → Local s at name
-shape-local s at name (single starts local-is end-is) = undivided local-is (part-free s at (name .end) end-is)
+shape-local : (s : List ℕ) (at : ℕ) (name : Named) → Shape classOf s at name → Local s at name
+shape-local s at name (single starts no-colon local-is end-is) = undivided local-is (part-free s at (name .end) end-is)
 shape-local s at name (double starts colon local-is begins end-is) =
     divided (omega (arith, ends-from (isName classOf) s at)) (omega (arith, start-in-name classOf s (name .local) begins))
     (ap (byteAt s) before ∙ byte-is 58 s (ends (isName classOf) s at) colon) one-colon
@@ -42,7 +42,7 @@ shape-local s at name (double starts colon local-is begins end-is) =
         ]
 
 pub local-names : LocalNames
-local-names s at name stands = shape-local s at name (name-shape (stands .0) s at name (stands .1))
+local-names s at name stands = shape-local s at name (name-shape classOf s at (stands .0) name (stands .1))
 
 pub names-are : NamesAre
 names-are = (refl, refl, refl, refl, refl, refl, refl, refl, refl, refl, refl, refl, refl, refl)

@@ -1,5 +1,5 @@
--- The numbers of refusal of the readers that take the limits: what holds of 9, of 12 and of the number of each limit that is below the message's length
--- holds of all their refusals. Assumes nothing.
+-- The numbers of refusal of the readers that take the limits: what holds of 9, of 12 and of the number of each limit that is below the
+-- message's length holds of all their refusals. Assumes nothing.
 use Prim.Native.Nat.{ℕ, zero, suc, _+_, _-_, _<_, _≤_}
 use mathlib.Core.Path.{_≡_}
 use mathlib.Core.List.{List, [], _∷_}
@@ -67,7 +67,8 @@ module _ (P : ℕ → Type 0) (class : ℕ → ℕ) (s : List ℕ) (l : Limits) 
       one-cases Told (isStart class) s p _ (λ t.
       refuses-then _ (cond-cases Told (ltb (length seen) (l .attributes)) (λ u. never) (λ u.
       with (holds .eleven (omega (arith, ltb-false (length seen) (l .attributes) u, has-lt (isStart class) s p t))))) (λ room.
-      refuses-then _ (told-name p) (λ n. cond-cases Told (isKnown (part s p (n .end)) seen) (λ u. with (holds .nine)) (λ u. never)))) (with (holds .nine)))
+      refuses-then _ (told-name p) (λ n. cond-cases Told (isKnown (part s p (n .end)) seen) (λ u. with (holds .nine)) (λ u. never))))
+      (with (holds .nine)))
 
   told-attributes : (fuel : ℕ) (seen : List (List ℕ)) (at : ℕ) → length seen < at → Told (attributesAt class s l fuel seen at)
   unfolding attributesAt
@@ -77,7 +78,8 @@ module _ (P : ℕ → Type 0) (class : ℕ → ℕ) (s : List ℕ) (l : Limits) 
       cond-cases Told (has endsTag s p) (λ t. never) (λ t.
       refuses-after _ (told-fresh seen at p (omega (arith, ends-from (isSpace class) s at))) (λ e q.
       refuses-after _ (form-quoted P (holds .nine) s class e) (λ v r.
-      told-attributes fuel (part s p e ∷ seen) (v .to + 1) (omega (arith, ends-from (isSpace class) s at, fresh-on class s l seen at q, quoted-on class s r)))))
+      told-attributes fuel (part s p e ∷ seen) (v .to + 1)
+      (omega (arith, ends-from (isSpace class) s at, fresh-on class s l seen at q, quoted-on class s r)))))
 
   told-start : (at : ℕ) → Told (startAt class s l at)
   unfolding startAt withNameAt
@@ -92,7 +94,8 @@ module _ (P : ℕ → Type 0) (class : ℕ → ℕ) (s : List ℕ) (l : Limits) 
   told-end-part : (w : List ℕ) (at : ℕ) → Told (endPartAt class s l w at)
   unfolding endPartAt
   told-end-part w at =
-      refuses-then _ (form-one P (holds .nine) s (is (getD w 0 0)) at) (λ first. refuses-then _ (told-short at) (λ short. form-word P (holds .nine) s w at))
+      refuses-then _ (form-one P (holds .nine) s (is (getD w 0 0)) at)
+      (λ first. refuses-then _ (told-short at) (λ short. form-word P (holds .nine) s w at))
 
   told-end-tag : (b : ℕ) (n : Named) (at : ℕ) → Told (endTagAt class s l b n at)
   unfolding endTagAt endNameAt
@@ -114,7 +117,8 @@ module _ (P : ℕ → Type 0) (class : ℕ → ℕ) (s : List ℕ) (l : Limits) 
         refuses-after _ (form-free P (holds .nine) s class (holds .twelve) (length s) at) (λ stop q.
         let further : k < stop = omega (arith, free-whole class s at stop q) in
         cond-cases Told (has (is 47) s (stop + 1)) (λ t. refuses-then _ (told-end-tag (st .begin) (st .name) (stop + 2)) (λ e. never)) (λ t.
-        refuses-after _ (told stop further) (λ e r. refuses-then _ (told-content fuel (e .tag .end) (omega (arith, on stop e r))) (λ c. never))))
+        refuses-after _ (told stop further)
+        (λ e r. refuses-then _ (told-content fuel (e .tag .end) (omega (arith, on stop e r))) (λ c. never))))
 
     told-rest : k < st .from → Told (restAt class s l child st)
     unfolding restAt
@@ -124,10 +128,12 @@ module _ (P : ℕ → Type 0) (class : ℕ → ℕ) (s : List ℕ) (l : Limits) 
   unfolding elementAt tooDeepAt
   told-element zero at h =
       one-cases Told (is 60) s at _ (λ t.
-      refuses-then _ (form-one P (holds .nine) s (isStart class) (at + 1)) (λ i. with (holds .ten (omega (arith, has-lt (is 60) s at t))))) (with (holds .nine))
+      refuses-then _ (form-one P (holds .nine) s (isStart class) (at + 1)) (λ i. with (holds .ten (omega (arith, has-lt (is 60) s at t)))))
+      (with (holds .nine))
   told-element (suc depth) at h =
       refuses-after _ (told-start at) (λ st q.
-      told-rest at (elementAt class s l depth) (λ from g. told-element depth from (omega arith)) (λ from e r. element-on class s l depth from e r .0) st
+      told-rest at (elementAt class s l depth) (λ from g. told-element depth from (omega arith))
+      (λ from e r. element-on class s l depth from e r .0) st
       (past-whole (λ st. st .from) (length s) at q (past-start class s at l at (omega arith)) .0))
 
   -- ---- messages

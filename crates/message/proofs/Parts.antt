@@ -2,7 +2,7 @@
 use Prim.Native.Nat.{ℕ, zero, suc, _+_, _-_, _<_, _≤_, min}
 use mathlib.Core.Path.{_≡_, refl, sym, _∙_, ap}
 use mathlib.Core.Logic.{_⊎_, ⊎-elim}
-use mathlib.Core.Bool.{Bool, true, false, _&&_}
+use mathlib.Core.Bool.{true, false}
 use mathlib.Core.List.{List, [], _∷_, _++_}
 use native.Mathlib.Nat.{min-eq-left, min-eq-right, min-le-left}
 use native.Mathlib.Numerals.{add-one}
@@ -12,24 +12,22 @@ use lib.Seq.{drop-cons, slice-cons, getD-drop, getD-take}
 use lib.Dec.{eqb}
 use borrow.Author.Tests.{eq-eqb, ne-eqb}
 use Rattle.laws.specs.Bytes.{sameBytes}
+use Rattle.laws.proofs.Tests.{and-last}
 use Rattle.message.specs.Elements.{part}
 
 -- ---- two runs of bytes
-
-fails-too : (t : Bool) {u : Bool} → false ≡ u → false ≡ (t && u)
-fails-too true h = h
-fails-too false h = refl
 
 pub other-length : (u v : List ℕ) → (length u ≡ length v → ⊥) → false ≡ sameBytes u v
 unfolding sameBytes
 other-length [] [] h = absurd (h refl)
 other-length [] (y ∷ v) h = refl
 other-length (x ∷ u) [] h = refl
-other-length (x ∷ u) (y ∷ v) h = fails-too (eqb x y) (other-length u v (λ e. h (ap suc e)))
+other-length (x ∷ u) (y ∷ v) h = sym (and-last (eqb x y) (sym (other-length u v (λ e. h (ap suc e)))))
 
 -- from their k-th bytes on
 module _ (u v : List ℕ) (k : ℕ) where
-  pub same-on : k < length u → k < length v → getD u k 0 ≡ getD v k 0 → sameBytes (drop (k + 1) u) (drop (k + 1) v) ≡ sameBytes (drop k u) (drop k v)
+  pub same-on : k < length u → k < length v → getD u k 0 ≡ getD v k 0
+      → sameBytes (drop (k + 1) u) (drop (k + 1) v) ≡ sameBytes (drop k u) (drop k v)
   unfolding sameBytes
   same-on h h′ q = rw (add-one, drop-cons u k 0 h, drop-cons v k 0 h′, eq-eqb (getD u k 0) (getD v k 0) q)
 
@@ -62,11 +60,13 @@ module _ (s : List ℕ) (b e : ℕ) where
     part-other h = other-length (part s b e) w (λ q. h (n-is ∙ sym part-length ∙ q))
 
     module _ (k : ℕ) (lengths : n ≡ length w) where
-      pub part-on : k < n → getD s (b + k) 0 ≡ getD w k 0 → sameBytes (drop (k + 1) (part s b e)) (drop (k + 1) w) ≡ sameBytes (drop k (part s b e)) (drop k w)
+      pub part-on : k < n → getD s (b + k) 0 ≡ getD w k 0
+          → sameBytes (drop (k + 1) (part s b e)) (drop (k + 1) w) ≡ sameBytes (drop k (part s b e)) (drop k w)
       part-on h q = same-on (part s b e) w k (omega (arith, part-length)) (omega arith) (part-byte k (omega arith) ∙ q)
 
       pub part-differs : k < n → (getD s (b + k) 0 ≡ getD w k 0 → ⊥) → false ≡ sameBytes (drop k (part s b e)) (drop k w)
-      part-differs h q = same-differs (part s b e) w k (omega (arith, part-length)) (omega arith) (λ p. q (sym (part-byte k (omega arith)) ∙ p))
+      part-differs h q =
+          same-differs (part s b e) w k (omega (arith, part-length)) (omega arith) (λ p. q (sym (part-byte k (omega arith)) ∙ p))
 
       pub part-end : n ≤ k → true ≡ sameBytes (drop k (part s b e)) (drop k w)
       part-end h = same-end (part s b e) w k (omega (arith, part-length)) (omega arith)
@@ -82,7 +82,21 @@ part-split s b m e p q l = go (m - b) b (omega arith)
         ∙ ap (λ (r : List ℕ). getD s b 0 ∷ r) (go n (b + 1) (omega arith))
         ∙ sym (ap (λ (r : List ℕ). r ++ part s m e) (part-some s b m (omega arith) (omega arith)))
 
+module _ (s : List ℕ) where
+  -- parted at a byte
+  pub part-parted : (b m e : ℕ) → b ≤ m → m < e → e ≤ length s → part s b e ≡ part s b m ++ (getD s m 0 ∷ part s (m + 1) e)
+  part-parted b m e p h l = part-split s b m e p (omega arith) l ∙ ap (λ (u : List ℕ). part s b m ++ u) (part-some s m e h l)
+
+  pub part-one : (b : ℕ) → b < length s → part s b (b + 1) ≡ getD s b 0 ∷ []
+  part-one b h =
+      part-some s b (b + 1) (omega arith) (omega arith) ∙ ap (λ (u : List ℕ). getD s b 0 ∷ u) (part-none s (b + 1) (b + 1) (omega arith))
+
+  -- one byte more
+  pub part-more : (b e : ℕ) → b ≤ e → e < length s → part s b (e + 1) ≡ part s b e ++ (getD s e 0 ∷ [])
+  part-more b e p h = part-split s b e (e + 1) p (omega arith) (omega arith) ∙ ap (λ (u : List ℕ). part s b e ++ u) (part-one e h)
+
 -- what a local is after `if e < n { e } else { n }`, from the way that control came
 pub lesser : {T F : Type 0} {n e stop : ℕ} → (T × (stop ≡ e)) ⊎ (F × (stop ≡ n)) → (T → e < n) → (F → n ≤ e) → stop ≡ min e n
 lesser {n = n} {e = e} came taken left =
-    ⊎-elim (λ w. let h : e ≤ n = omega (arith, taken (w .0)) in w .1 ∙ sym (min-eq-left h)) (λ w. w .1 ∙ sym (min-eq-right (left (w .0)))) came
+    ⊎-elim (λ w. let h : e ≤ n = omega (arith, taken (w .0)) in w .1 ∙ sym (min-eq-left h))
+    (λ w. w .1 ∙ sym (min-eq-right (left (w .0)))) came

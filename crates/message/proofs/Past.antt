@@ -1,18 +1,19 @@
--- No step leads back to the start of a message. Assumes nothing.
+-- No step leads back to the start of a message: the machine is in its first state there, and nowhere else. Assumes nothing.
 use Prim.Native.Nat.{ℕ, zero, suc, _+_, _*_}
-use mathlib.Core.Path.{_≡_, refl, subst}
-use mathlib.Core.Bool.{Bool, true, false, cond, not, _&&_}
+use mathlib.Core.Path.{_≡_, refl, sym, _∙_, ap, subst}
+use mathlib.Core.Bool.{Bool, true, false, not, _&&_}
 use mathlib.Core.List.{List, [], _∷_}
-use native.Mathlib.Omega.{arith}
 use lib.Dec.{leb, eqb}
+use Rattle.laws.proofs.Tests.{true-false}
 use Rattle.message.specs.Class.{classOf, between, isStart, isName, isSpace, isText, isPlainNote}
 use Rattle.message.specs.Reading.{is, byteAt, isQuote}
 use Rattle.message.specs.Characters.{secondOfThree, isDigit, digitOf, closes}
 use Rattle.message.specs.Elements.{isKnown}
 use Rattle.message.specs.Limits.{Limits}
+use Rattle.message.proofs.Laws.{cond-both}
 use Rattle.message.proofs.Automaton.{Test, Ground, first, before, behind, inside, State, ground, opened, expect, blanks, declared, versionQuote, encodingQuote, versioned, encodingName, note, second, ampersand, ampersandA, hash, firstDigit, number, name, colon, inTag, slash, attribute, attributeColon, quote, value, close, Next, dead, goes, only, expecting, rest, after, closing, versionWord, encodingWord, leads, special, betweenTags, named, tag, stepNote, base, numbered, digit, stepAmpersand, stepInTag, step}
 use Rattle.message.proofs.Dues.{isFirst, stateAt, At}
-use Rattle.message.proofs.Ways.{came}
+use Rattle.message.proofs.Ways.{came, goes-same}
 
 -- neither the start nor a state that goes on there
 abbrev Past : State → Type 0
@@ -46,10 +47,6 @@ abbrev PastNext : Next → Type 0
 PastNext dead = Unit {0}
 PastNext (goes st) = Past st
 
-past-cond : (t : Bool) (a b : Next) → PastNext a → PastNext b → PastNext (cond t a b)
-past-cond true a b h k = h
-past-cond false a b h k = k
-
 past-only : (t : Bool) (k : State) → Past k → PastNext (only t k)
 past-only true k h = h
 past-only false k h = tt
@@ -74,34 +71,34 @@ past-rest behind = refl
 past-rest (inside b v o) = refl
 
 past-leads : (k : State) (x : ℕ) → Past k → PastNext (leads k x)
-past-leads k x h = past-cond (between 194 223 x) _ _ h (past-cond (between 224 239 x) _ _ h (past-only (between 240 244 x) _ h))
+past-leads k x h = cond-both PastNext (between 194 223 x) h (cond-both PastNext (between 224 239 x) h (past-only (between 240 244 x) _ h))
 
 past-special : (k : State) (x : ℕ) → Past k → PastNext (special k x)
-past-special k x h = past-cond (is 38 x) _ _ h (past-leads k x h)
+past-special k x h = cond-both PastNext (is 38 x) h (past-leads k x h)
 
 past-between : (g : Ground) (x : ℕ) → PastNext (betweenTags g x)
 past-between first x = past-only (isSpace classOf x) (ground before) refl
 past-between before x = past-only (isSpace classOf x) (ground before) refl
 past-between behind x = past-only (isSpace classOf x) (ground behind) refl
 past-between (inside b v o) x =
-    past-cond (is 93 x) _ _ refl
-    (past-cond (isText classOf x) _ _ (past-cond (eqb b 2 && is 62 x) _ _ tt refl) (past-special (ground (inside 0 v o)) x refl))
+    cond-both PastNext (is 93 x) refl
+    (cond-both PastNext (isText classOf x) (cond-both PastNext (eqb b 2 && is 62 x) tt refl) (past-special (ground (inside 0 v o)) x refl))
 
 past-ground : (g : Ground) (x : ℕ) → PastNext (step (ground g) x)
-past-ground g x = past-cond (is 60 x) _ _ tt (past-between g x)
+past-ground g x = cond-both PastNext (is 60 x) tt (past-between g x)
 
 past-named : (o : List (List ℕ)) (x : ℕ) → PastNext (named o x)
 past-named o x = past-only (isStart classOf x) (name false (x ∷ []) o) tt
 
 past-tag : (g : Ground) (x : ℕ) → PastNext (tag g x)
-past-tag first x = past-cond (is 63 x) _ _ tt (past-named [] x)
+past-tag first x = cond-both PastNext (is 63 x) tt (past-named [] x)
 past-tag before x = past-named [] x
 past-tag behind x = tt
-past-tag (inside b v o) x = past-cond (is 47 x) _ _ (past-closing v true o) (past-named (v ∷ o) x)
+past-tag (inside b v o) x = cond-both PastNext (is 47 x) (past-closing v true o) (past-named (v ∷ o) x)
 
 past-note : (h : ℕ) (k : State) (x : ℕ) → Past k → PastNext (stepNote h k x)
-past-note zero k x e = past-cond (is 45 x) _ _ e (past-cond (isPlainNote classOf x) _ _ e (past-leads (note 0 k) x e))
-past-note (suc zero) k x e = past-cond (is 45 x) _ _ e (past-cond (isPlainNote classOf x) _ _ e (past-leads (note 0 k) x e))
+past-note zero k x e = cond-both PastNext (is 45 x) e (cond-both PastNext (isPlainNote classOf x) e (past-leads (note 0 k) x e))
+past-note (suc zero) k x e = cond-both PastNext (is 45 x) e (cond-both PastNext (isPlainNote classOf x) e (past-leads (note 0 k) x e))
 past-note (suc (suc h)) k x e = past-only (is 62 x) k e
 
 past-numbered : (hex : Bool) (n : ℕ) (t : Bool) (e : leb n 1114111 ≡ t) (k : State) → Past k → PastNext (numbered hex n t e k)
@@ -113,57 +110,73 @@ past-digit hex n k x h = past-numbered hex (n * base hex + digitOf x) (leb (n * 
 
 past-ampersand : (k : State) (x : ℕ) → Past k → PastNext (stepAmpersand k x)
 past-ampersand k x h =
-    past-cond (is 35 x) _ _ h
-    (past-cond (is 108 x) _ _ h (past-cond (is 103 x) _ _ h (past-cond (is 113 x) _ _ h (past-only (is 97 x) (ampersandA k) h))))
+    cond-both PastNext (is 35 x) h
+    (cond-both PastNext (is 108 x) h
+    (cond-both PastNext (is 103 x) h (cond-both PastNext (is 113 x) h (past-only (is 97 x) (ampersandA k) h))))
 
 past-in-tag : (spaced : Bool) (n : List ℕ) (seen o : List (List ℕ)) (x : ℕ) → PastNext (stepInTag spaced n seen o x)
 past-in-tag spaced n seen o x =
-    past-cond (isSpace classOf x) _ _ tt
-    (past-cond (is 47 x) _ _ tt (past-cond (is 62 x) _ _ refl (past-only (spaced && isStart classOf x) (attribute false (x ∷ []) n seen o) tt)))
+    cond-both PastNext (isSpace classOf x) tt
+    (cond-both PastNext (is 47 x) tt
+    (cond-both PastNext (is 62 x) refl (past-only (spaced && isStart classOf x) (attribute false (x ∷ []) n seen o) tt)))
 
 past-step : (st : State) (x : ℕ) → Past st → PastNext (step st x)
 unfolding classOf
 past-step (ground g) x h = past-ground g x
-past-step (opened g) x h = past-cond (is 33 x) _ _ (past-rest g) (past-tag g x)
+past-step (opened g) x h = cond-both PastNext (is 33 x) (past-rest g) (past-tag g x)
 past-step (expect t ts k) x h = past-only (t .passes x) (expecting ts k) (past-expecting ts k h)
-past-step (blanks t solid ts k) x h = past-cond (isSpace classOf x) _ _ h (past-only (t .passes x) (expecting ts k) (past-expecting ts k h))
+past-step (blanks t solid ts k) x h =
+    cond-both PastNext (isSpace classOf x) h (past-only (t .passes x) (expecting ts k) (past-expecting ts k h))
 past-step declared x h = past-only (isSpace classOf x) versionWord tt
-past-step versionQuote x h = past-cond (isSpace classOf x) _ _ tt (past-only (isQuote x) _ tt)
-past-step encodingQuote x h = past-cond (isSpace classOf x) _ _ tt (past-only (isQuote x) (encodingName x) tt)
+past-step versionQuote x h = cond-both PastNext (isSpace classOf x) tt (past-only (isQuote x) _ tt)
+past-step encodingQuote x h = cond-both PastNext (isSpace classOf x) tt (past-only (isQuote x) (encodingName x) tt)
 past-step (versioned spaced) x h =
-    past-cond (isSpace classOf x) _ _ tt (past-cond (is 63 x) _ _ refl (past-only (spaced && is 101 x) encodingWord tt))
-past-step (encodingName q) x h = past-cond (is 117 x) _ _ refl (past-only (is 85 x) _ refl)
+    cond-both PastNext (isSpace classOf x) tt (cond-both PastNext (is 63 x) refl (past-only (spaced && is 101 x) encodingWord tt))
+past-step (encodingName q) x h = cond-both PastNext (is 117 x) refl (past-only (is 85 x) _ refl)
 past-step (note c k) x h = past-note c k x h
 past-step (second lead k) x h = past-only (secondOfThree lead x) _ h
 past-step (ampersand k) x h = past-ampersand k x h
-past-step (ampersandA k) x h = past-cond (is 109 x) _ _ h (past-only (is 112 x) _ h)
-past-step (hash k) x h = past-cond (is 120 x) _ _ h (past-cond (isDigit 10 x) _ _ (past-digit false 0 k x h) tt)
-past-step (firstDigit hex k) x h = past-cond (isDigit (base hex) x) _ _ (past-digit hex 0 k x h) tt
-past-step (number hex n small k) x h = past-cond (isDigit (base hex) x) _ _ (past-digit hex n k x h) (past-only (closes n x) k h)
-past-step (name t n o) x h = past-cond (isName classOf x) _ _ tt (past-cond (is 58 x && not t) _ _ tt (past-in-tag false n [] o x))
+past-step (ampersandA k) x h = cond-both PastNext (is 109 x) h (past-only (is 112 x) _ h)
+past-step (hash k) x h = cond-both PastNext (is 120 x) h (cond-both PastNext (isDigit 10 x) (past-digit false 0 k x h) tt)
+past-step (firstDigit hex k) x h = cond-both PastNext (isDigit (base hex) x) (past-digit hex 0 k x h) tt
+past-step (number hex n small k) x h = cond-both PastNext (isDigit (base hex) x) (past-digit hex n k x h) (past-only (closes n x) k h)
+past-step (name t n o) x h =
+    cond-both PastNext (isName classOf x) tt (cond-both PastNext (is 58 x && not t) tt (past-in-tag false n [] o x))
 past-step (colon n o) x h = past-only (isStart classOf x) _ tt
 past-step (inTag spaced n seen o) x h = past-in-tag spaced n seen o x
 past-step (slash o) x h = past-only (is 62 x) (after o) (past-after o)
 past-step (attribute t a n seen o) x h =
-    past-cond (isName classOf x) _ _ tt
-    (past-cond (is 58 x && not t) _ _ tt (past-cond (isKnown a seen) _ _ tt
-    (past-cond (isSpace classOf x) _ _ tt (past-only (is 61 x) (quote n (a ∷ seen) o) tt))))
+    cond-both PastNext (isName classOf x) tt
+    (cond-both PastNext (is 58 x && not t) tt (cond-both PastNext (isKnown a seen) tt
+    (cond-both PastNext (isSpace classOf x) tt (past-only (is 61 x) (quote n (a ∷ seen) o) tt))))
 past-step (attributeColon a n seen o) x h = past-only (isStart classOf x) _ tt
-past-step (quote n seen o) x h = past-cond (isSpace classOf x) _ _ tt (past-only (isQuote x) (value x n seen o) tt)
-past-step (value q n seen o) x h = past-cond (is q x) _ _ tt (past-cond (isText classOf x) _ _ tt (past-special (value q n seen o) x tt))
+past-step (quote n seen o) x h = cond-both PastNext (isSpace classOf x) tt (past-only (isQuote x) (value x n seen o) tt)
+past-step (value q n seen o) x h =
+    cond-both PastNext (is q x) tt (cond-both PastNext (isText classOf x) tt (past-special (value q n seen o) x tt))
 past-step (close y w fresh o) x h = past-only (is y x) (closing w (is 58 y) o) (past-closing w (is 58 y) o)
 
 at-past : (l : Limits) (s : List ℕ) (i : ℕ) (st : State) → At l s st (suc i) → Past st
 unfolding stateAt
 at-past l s zero st h =
     let c = came l s 0 st h in
-    let here : goes (ground first) ≡ goes (c .from) = c .here in
-    let start : ground first ≡ c .from = cc in
-    subst PastNext (c .by) (subst (λ (from : State). PastNext (step from (byteAt s 0))) start (past-ground first (byteAt s 0)))
+    subst PastNext (c .by) (subst (λ (from : State). PastNext (step from (byteAt s 0))) (goes-same (c .here))
+    (past-ground first (byteAt s 0)))
 at-past l s (suc i) st h =
     let c = came l s (suc i) st h in
     subst PastNext (c .by) (past-step (c .from) (byteAt s (suc i)) (at-past l s i (c .from) (c .here)))
 
-pub at-first : (l : Limits) (s : List ℕ) (i : ℕ) → At l s (ground first) i → i ≡ 0
-at-first l s zero h = refl
-at-first l s (suc i) h = let q : true ≡ false = at-past l s i (ground first) h in let z : _≡_ {A = ℕ} 0 1 = cc in absurd (omega arith)
+-- so the machine is in its first state before the first byte, and nowhere else
+module _ (l : Limits) (s : List ℕ) (i : ℕ) (g : Ground) (here : At l s (ground g) i) where
+  pub at-first : isFirst g ≡ true → i ≡ 0
+  at-first = go i here
+    where
+      go : (i : ℕ) → At l s (ground g) i → isFirst g ≡ true → i ≡ 0
+      go zero h e = refl
+      go (suc i) h e = absurd (true-false e (at-past l s i (ground g) h))
+
+  pub at-start : i ≡ 0 → isFirst g ≡ true
+  unfolding stateAt
+  at-start none =
+      let same : goes (ground first) ≡ goes (ground g) = sym (ap (stateAt l s) none) ∙ here in
+      let start : first ≡ g = cc in
+      ap isFirst (sym start)

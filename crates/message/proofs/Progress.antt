@@ -1,5 +1,5 @@
--- What is read whole ends past where it began and within the message, so the loops of the code end, and the fuel of the readers of specs/ is enough.
--- Assumes nothing.
+-- What is read whole ends past where it began and within the message, so the loops of the code end, and the fuel of the readers of specs/
+-- is enough. Assumes nothing.
 use Prim.Native.Nat.{ℕ, zero, suc, _+_, _-_, _*_, _<_, _≤_}
 use mathlib.Core.Path.{_≡_, refl, sym, _∙_, subst}
 use mathlib.Core.Bool.{Bool, true, _&&_}
@@ -19,12 +19,14 @@ abbrev pub Every : {A : Type 0} → (A → Type 0) → Reading A → Type 0
 Every P (whole x) = P x
 Every P (refused number place) = Unit {0}
 
-pub every-then : {A B : Type 0} (P : A → Type 0) (Q : B → Type 0) (next : A → Reading B) (a : Reading A) → Every P a → ((x : A) → P x → Every Q (next x)) → Every Q (a >>= next)
+pub every-then : {A B : Type 0} (P : A → Type 0) (Q : B → Type 0) (next : A → Reading B) (a : Reading A) → Every P a
+    → ((x : A) → P x → Every Q (next x)) → Every Q (a >>= next)
 every-then P Q next (whole x) h g = g x h
 every-then P Q next (refused number place) h g = tt
 
 -- whatever the first has read
-pub every-on : {A B : Type 0} (Q : B → Type 0) (next : A → Reading B) (a : Reading A) → ((x : A) → a ≡ whole x → Every Q (next x)) → Every Q (a >>= next)
+pub every-on : {A B : Type 0} (Q : B → Type 0) (next : A → Reading B) (a : Reading A) → ((x : A) → a ≡ whole x → Every Q (next x))
+    → Every Q (a >>= next)
 every-on Q next (whole x) g = g x refl
 every-on Q next (refused number place) g = tt
 
@@ -45,7 +47,8 @@ abbrev pub PastCharacter : ℕ → ℕ → Reading Character → Type 0
 PastCharacter = Past (λ c. c .end)
 
 module _ {A B : Type 0} (end : A → ℕ) (end′ : B → ℕ) (n k : ℕ) where
-  pub past-then : (next : A → Reading B) (a : Reading A) → Past end n k a → ((x : A) → k < end x → end x ≤ n → Past end′ n k (next x)) → Past end′ n k (a >>= next)
+  pub past-then : (next : A → Reading B) (a : Reading A) → Past end n k a → ((x : A) → k < end x → end x ≤ n → Past end′ n k (next x))
+      → Past end′ n k (a >>= next)
   past-then next a h g = every-then (λ x. (k < end x) × (end x ≤ n)) (λ y. (k < end′ y) × (end′ y ≤ n)) next a h (λ x p. g x (p .0) (p .1))
 
 -- what is known of a reading that was whole
@@ -63,7 +66,8 @@ module _ (s : List ℕ) (k : ℕ) where
   past-word (x ∷ word) at h l =
       past-then (λ e. e) (λ e. e) (length s) k _ (one (is x) s at) (past-one (is x) at (omega arith)) (λ i p q. past-word word i p q)
 
-  abbrev place-then : {B : Type 0} (end : B → ℕ) (next : ℕ → Reading B) (a : Reading ℕ) → PastPlace (length s) k a → ((e : ℕ) → k < e → e ≤ length s → Past end (length s) k (next e)) → Past end (length s) k (a >>= next)
+  abbrev place-then : {B : Type 0} (end : B → ℕ) (next : ℕ → Reading B) (a : Reading ℕ) → PastPlace (length s) k a
+      → ((e : ℕ) → k < e → e ≤ length s → Past end (length s) k (next e)) → Past end (length s) k (a >>= next)
   place-then end = past-then (λ e. e) end (length s) k
 
   -- ---- characters of more than one byte
@@ -75,8 +79,10 @@ module _ (s : List ℕ) (k : ℕ) where
   past-three : (at : ℕ) → k ≤ at → PastCharacter (length s) k (threeAt s at)
   unfolding threeAt
   past-three at h =
-      place-then (λ c. c .end) _ (one (secondOfThree (byteAt s at)) s (at + 1)) (past-one (secondOfThree (byteAt s at)) (at + 1) (omega arith)) (λ i p q.
-      place-then (λ c. c .end) _ (one (thirdOfThree (byteAt s at) (byteAt s (at + 1))) s i) (past-one (thirdOfThree (byteAt s at) (byteAt s (at + 1))) i (omega arith)) (λ e p′ q′. (p′, q′)))
+      place-then (λ c. c .end) _ (one (secondOfThree (byteAt s at)) s (at + 1))
+      (past-one (secondOfThree (byteAt s at)) (at + 1) (omega arith)) (λ i p q.
+      place-then (λ c. c .end) _ (one (thirdOfThree (byteAt s at) (byteAt s (at + 1))) s i)
+      (past-one (thirdOfThree (byteAt s at) (byteAt s (at + 1))) i (omega arith)) (λ e p′ q′. (p′, q′)))
 
   past-last-two : (begun at : ℕ) → k ≤ at → PastCharacter (length s) k (lastTwoAt begun s at)
   unfolding lastTwoAt
@@ -111,8 +117,10 @@ module _ (s : List ℕ) (k : ℕ) where
   unfolding numberedAt
   past-numbered base at h =
       place-then (λ c. c .end) _ (one (isDigit base) s at) (past-one (isDigit base) at (omega arith)) (λ i p q.
-      every-then (λ c. k < c .end) (λ c. (k < c .end) × (c .end ≤ length s)) _ (digitsAt (suc (length s)) base 0 s at) (after-digits (suc (length s)) base 0 at h) (λ number l.
-      place-then (λ c. c .end) _ (one (closes (number .code)) s (number .end)) (past-one (closes (number .code)) (number .end) (omega arith)) (λ e p′ q′. (p′, q′))))
+      every-then (λ c. k < c .end) (λ c. (k < c .end) × (c .end ≤ length s)) _ (digitsAt (suc (length s)) base 0 s at)
+      (after-digits (suc (length s)) base 0 at h) (λ number l.
+      place-then (λ c. c .end) _ (one (closes (number .code)) s (number .end))
+      (past-one (closes (number .code)) (number .end) (omega arith)) (λ e p′ q′. (p′, q′))))
 
   past-stands : (word : List ℕ) (code at : ℕ) → k < at → at ≤ length s → PastCharacter (length s) k (standsAt word code s at)
   unfolding standsAt
@@ -121,18 +129,23 @@ module _ (s : List ℕ) (k : ℕ) where
   past-predefined : (at : ℕ) → k < at → PastCharacter (length s) k (predefinedAt s at)
   unfolding predefinedAt
   past-predefined at h =
-      cond-cases (PastCharacter (length s) k) (has (is 108) s at) (λ t. past-stands (108 ∷ 116 ∷ 59 ∷ []) 60 at h (omega (arith, has-lt (is 108) s at t))) (λ t.
-      cond-cases (PastCharacter (length s) k) (has (is 103) s at) (λ u. past-stands (103 ∷ 116 ∷ 59 ∷ []) 62 at h (omega (arith, has-lt (is 103) s at u))) (λ u.
-      cond-cases (PastCharacter (length s) k) (has (is 113) s at) (λ v. past-stands (113 ∷ 117 ∷ 111 ∷ 116 ∷ 59 ∷ []) 34 at h (omega (arith, has-lt (is 113) s at v))) (λ v.
+      cond-cases (PastCharacter (length s) k) (has (is 108) s at)
+      (λ t. past-stands (108 ∷ 116 ∷ 59 ∷ []) 60 at h (omega (arith, has-lt (is 108) s at t))) (λ t.
+      cond-cases (PastCharacter (length s) k) (has (is 103) s at)
+      (λ u. past-stands (103 ∷ 116 ∷ 59 ∷ []) 62 at h (omega (arith, has-lt (is 103) s at u))) (λ u.
+      cond-cases (PastCharacter (length s) k) (has (is 113) s at)
+      (λ v. past-stands (113 ∷ 117 ∷ 111 ∷ 116 ∷ 59 ∷ []) 34 at h (omega (arith, has-lt (is 113) s at v))) (λ v.
       place-then (λ c. c .end) _ (one (is 97) s at) (past-one (is 97) at (omega arith)) (λ i p q.
-      cond-cases (PastCharacter (length s) k) (has (is 109) s i) (λ w. past-stands (109 ∷ 112 ∷ 59 ∷ []) 38 i p q) (λ w. past-stands (112 ∷ 111 ∷ 115 ∷ 59 ∷ []) 39 i p q)))))
+      cond-cases (PastCharacter (length s) k) (has (is 109) s i) (λ w. past-stands (109 ∷ 112 ∷ 59 ∷ []) 38 i p q)
+      (λ w. past-stands (112 ∷ 111 ∷ 115 ∷ 59 ∷ []) 39 i p q)))))
 
   pub past-reference : (at : ℕ) → k ≤ at → PastCharacter (length s) k (referenceAt s at)
   unfolding referenceAt
   past-reference at h =
       place-then (λ c. c .end) _ (one (is 38) s at) (past-one (is 38) at h) (λ i p q.
       cond-cases (PastCharacter (length s) k) (has (is 35) s i) (λ t.
-      cond-cases (PastCharacter (length s) k) (has (is 120) s (i + 1)) (λ u. past-numbered 16 (i + 2) (omega arith)) (λ u. past-numbered 10 (i + 1) (omega arith))) (λ t.
+      cond-cases (PastCharacter (length s) k) (has (is 120) s (i + 1)) (λ u. past-numbered 16 (i + 2) (omega arith))
+      (λ u. past-numbered 10 (i + 1) (omega arith))) (λ t.
       past-predefined i p))
 
   -- ---- what stands between plain bytes of text, of a value, of a comment
@@ -144,7 +157,8 @@ module _ (s : List ℕ) (k : ℕ) where
   past-bracket : (at : ℕ) → k ≤ at → has (is 93) s at ≡ true → PastPlace (length s) k (bracketAt s at)
   unfolding bracketAt
   past-bracket at h t =
-      cond-cases (PastPlace (length s) k) (has (is 93) s (at + 1) && has (is 62) s (at + 2)) (λ u. tt) (λ u. omega (arith, has-lt (is 93) s at t))
+      cond-cases (PastPlace (length s) k) (has (is 93) s (at + 1) && has (is 62) s (at + 2)) (λ u. tt)
+      (λ u. omega (arith, has-lt (is 93) s at t))
 
   pub past-beyond-plain-in : (class : ℕ → ℕ) (at : ℕ) → k ≤ at → PastPlace (length s) k (beyondPlainInAt class s at)
   unfolding beyondPlainInAt

@@ -1,5 +1,5 @@
--- Promise 2, as specs/Raised says it: a raised limit changes only what was its own refusal, and with all limits out of the way only 9, 12 and 13 are left.
--- Assumes nothing.
+-- Promise 2, as specs/Raised says it: a raised limit changes only what was its own refusal, and with all limits out of the way only 9, 12
+-- and 13 are left. Assumes nothing.
 use Prim.Native.Nat.{ℕ}
 use mathlib.Core.Path.{_≡_, refl, sym, _∙_, ap}
 use mathlib.Core.Logic.{_⊎_, inl, inr}
@@ -33,7 +33,8 @@ document-raised s l l′ up root q = kept-whole l l′ _ _ root (kept-document l
 
 -- and what is made of them is the same: either looks through the attributes of a start tag that was read whole, and finds what it carries
 module _ (s : List ℕ) (l l′ : Limits) (up : AtMost l l′) where
-  found-again : (w : List ℕ) (tag : Tag) → Attributed classOf s l (tag .name) → attributeOf classOf l s w tag ≡ attributeOf classOf l′ s w tag
+  found-again : (w : List ℕ) (tag : Tag) → Attributed classOf s l (tag .name)
+      → attributeOf classOf l s w tag ≡ attributeOf classOf l′ s w tag
   found-again w tag a = go (value s l w tag a) refl (value s l′ w tag a′) refl
     where
       a′ : Attributed classOf s l′ (tag .name)
@@ -44,13 +45,15 @@ module _ (s : List ℕ) (l l′ : Limits) (up : AtMost l l′) where
       go (refused n p) q (whole v) q′ = unread (sym q ∙ there-value s l w tag a v (value-there s l′ w tag a′ v q′))
       go (refused n p) q (refused n′ p′) q′ = refl
 
-  kind-again : (root : Element) → WasRead classOf s l root → (k : Kind) → messageOfKind classOf l s root k ≡ messageOfKind classOf l′ s root k
+  kind-again : (root : Element) → WasRead classOf s l root → (k : Kind)
+      → messageOfKind classOf l s root k ≡ messageOfKind classOf l′ s root k
   kind-again root was k = go k
     where
       mine : (w : List ℕ) → attributeOf classOf l s w (root .tag) ≡ attributeOf classOf l′ s w (root .tag)
       mine w = found-again w (root .tag) (own s l root was)
 
-      childs-own : (w v : List ℕ) (e : Element) → onlyChild s v (root .inside) ≡ whole e → attributeOf classOf l s w (e .tag) ≡ attributeOf classOf l′ s w (e .tag)
+      childs-own : (w v : List ℕ) (e : Element) → onlyChild s v (root .inside) ≡ whole e
+          → attributeOf classOf l s w (e .tag) ≡ attributeOf classOf l′ s w (e .tag)
       childs-own w v e h = found-again w (e .tag) (childs s l root was v e (only-child s v (root .inside) e h))
 
       go : (k : Kind) → messageOfKind classOf l s root k ≡ messageOfKind classOf l′ s root k
@@ -58,9 +61,12 @@ module _ (s : List ℕ) (l l′ : Limits) (up : AtMost l l′) where
       go kinds.SessionOpenResponse = rw (mine words.status)
       go kinds.SessionOk = rw (mine words.identity)
       go kinds.Ok = rw (mine words.inResponseTo)
-      go kinds.Advisory = then-same _ _ (onlyChild s words.advisory (root .inside)) (λ e h. rw (childs-own words.inRelationTo words.advisory e h))
-      go kinds.Request = then-same _ _ (onlyChild s words.queryRequest (root .inside)) (λ e h. rw (childs-own words.identity words.queryRequest e h))
-      go kinds.Response = then-same _ _ (onlyChild s words.queryResponse (root .inside)) (λ e h. rw (childs-own words.inResponseTo words.queryResponse e h))
+      go kinds.Advisory =
+          then-same _ _ (onlyChild s words.advisory (root .inside)) (λ e h. rw (childs-own words.inRelationTo words.advisory e h))
+      go kinds.Request =
+          then-same _ _ (onlyChild s words.queryRequest (root .inside)) (λ e h. rw (childs-own words.identity words.queryRequest e h))
+      go kinds.Response =
+          then-same _ _ (onlyChild s words.queryResponse (root .inside)) (λ e h. rw (childs-own words.inResponseTo words.queryResponse e h))
 
 pub raised-changes-its-own : RaisedChangesItsOwn
 unfolding messageAt
@@ -86,7 +92,8 @@ abbrev NineOrTwelve : ℕ → Type 0
 NineOrTwelve n = (n ≡ 9) ⊎ (n ≡ 12)
 
 pub document-rest : (s : List ℕ) (l : Limits) → OutOfTheWay s l → (n p : ℕ) → documentAt classOf s l 0 ≡ refused n p → NineOrTwelve n
-document-rest s l out n p q = refuses-number n p (told-document NineOrTwelve classOf s l (out-holds NineOrTwelve s l out (inl refl) (inr refl)) 0) q
+document-rest s l out n p q =
+    refuses-number n p (told-document NineOrTwelve classOf s l (out-holds NineOrTwelve s l out (inl refl) (inr refl)) 0) q
 
 -- a message that is well formed is refused with 13 alone
 decided-refuses : {P : ℕ → Type 0} {A : Type 0} {r : Reading A} → P 13 → Decided r → Refuses P r

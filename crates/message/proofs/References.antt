@@ -20,7 +20,7 @@ use Rattle.message.specs.Meanings.Digits.{first, further}
 use Rattle.message.proofs.Laws.{and-true, has-lt, one-yes, between-above}
 use Rattle.message.proofs.Digits.{hex-some}
 use Rattle.message.proofs.Runs.{has-known, byte-is}
-use Rattle.message.proofs.GoingDeclaration.{word-first}
+use Rattle.message.proofs.Words.{word-first}
 use Rattle.message.proofs.Spelling.{spelled-word}
 
 -- ---- digits

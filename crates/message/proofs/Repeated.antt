@@ -2,42 +2,24 @@
 use Prim.Native.Nat.{ℕ, _+_, _-_, _≤_, _<_}
 use mathlib.Core.Path.{_≡_, refl, sym, _∙_, ap, subst}
 use mathlib.Core.Bool.{true}
-use mathlib.Core.List.{List, [], _∷_, _++_}
+use mathlib.Core.List.{List, _∷_, _++_}
 use native.Mathlib.Omega.{arith}
 use lib.ListN.{length, getD}
 use lib.Seq.{length-slice}
 use borrow.Author.Tests.{eq-eqb, ne-eqb}
 use Rattle.message.specs.Class.{isName, isSpace}
-use Rattle.message.specs.Reading.{Reading, _>>=_, is, has, one, ends, wordAt, byteAt, blanks}
+use Rattle.message.specs.Reading.{Reading, _>>=_, is, has, one, ends, byteAt, blanks}
 use Rattle.message.specs.Reading.Reading.{whole}
 use Rattle.message.specs.Names.{Named, shortAt, nameAt}
 use Rattle.message.specs.Limits.{Limits}
 use Rattle.message.specs.Elements.{part, endPartAt, endNameAt, endTagAt}
 use Rattle.message.proofs.Laws.{cond-true, cond-false, cond-cases, has-lt, one-has, ends-from}
 use Rattle.message.proofs.Runs.{byte-is}
-use Rattle.message.proofs.Trees.{whole-same, name-on}
-use Rattle.message.proofs.Parts.{part-none, part-some, part-split}
+use Rattle.message.proofs.Trees.{name-on}
+use Rattle.message.proofs.Parts.{part-parted}
+use Rattle.message.proofs.Words.{word-part}
 use Rattle.message.proofs.Facts.{then-whole}
-use Rattle.message.proofs.Carried.{name-is}
-
-module _ (s : List ℕ) where
-  -- a part of the message, parted at a byte
-  parted : (a m e : ℕ) → a ≤ m → m < e → e ≤ length s → part s a e ≡ part s a m ++ (byteAt s m ∷ part s (m + 1) e)
-  parted a m e order h l = part-split s a m e order (omega arith) l ∙ ap (λ (u : List ℕ). part s a m ++ u) (part-some s m e h l)
-
-  -- a word that was read stands there
-  pub word-part : (w : List ℕ) (at i : ℕ) → wordAt w s at ≡ whole i → i ≤ length s → (at ≤ i) × (part s at i ≡ w)
-  unfolding wordAt
-  word-part [] at i q l = let e : at ≡ i = whole-same q in (omega arith, part-none s at i (omega arith))
-  word-part (x ∷ w) at i q l =
-      let y = then-whole (wordAt w s) (one (is x) s at) i q in
-      let o = one-has (is x) s at (y .0) (y .1) in
-      let r = word-part w (y .0) i (y .2) l in
-      let after : part s (at + 1) i ≡ w = ap (λ (j : ℕ). part s j i) (sym (o .1)) ∙ r .1 in
-      (omega (arith, r .0, o .1), part-some s at i (omega (arith, r .0, o .1)) l ∙ cons (byte-is x s at (o .0)) after)
-    where
-      cons : {x y : ℕ} {u v : List ℕ} → x ≡ y → u ≡ v → x ∷ u ≡ y ∷ v
-      cons p q = rw (p, q)
+use Rattle.message.proofs.Shapes.{name-is}
 
 module _ (class : ℕ → ℕ) (s : List ℕ) (l : Limits) where
   end-part : (w : List ℕ) (at i : ℕ) → endPartAt class s l w at ≡ whole i → i ≤ length s → (at ≤ i) × (part s at i ≡ w)
@@ -48,7 +30,8 @@ module _ (class : ℕ → ℕ) (s : List ℕ) (l : Limits) where
       word-part s w at i (y .2) h
 
   -- a name of one part, and of two
-  end-one-part : (b e at i : ℕ) → endNameAt class s l b (record { local = b; end = e }) at ≡ whole i → i ≤ length s → (at ≤ i) × (part s at i ≡ part s b e)
+  end-one-part : (b e at i : ℕ) → endNameAt class s l b (record { local = b; end = e }) at ≡ whole i → i ≤ length s
+      → (at ≤ i) × (part s at i ≡ part s b e)
   unfolding endNameAt
   end-one-part b e at i q h = end-part (part s b e) at i (cond-true _ (eq-eqb b b refl) ∙ q) h
 
@@ -57,7 +40,8 @@ module _ (class : ℕ → ℕ) (s : List ℕ) (l : Limits) where
   unfolding endNameAt
   end-two-parts b first e at i after room within colon q h =
       let second : ℕ → Reading ℕ = λ j. one (is 58) s j >>= endPartAt class s l (part s (first + 1) e) in
-      let x = then-whole second (endPartAt class s l (part s b (first + 1 - 1)) at) i (cond-false _ (ne-eqb (first + 1) b (λ z. omega arith)) ∙ q) in
+      let x = then-whole second (endPartAt class s l (part s b (first + 1 - 1)) at) i
+      (cond-false _ (ne-eqb (first + 1) b (λ z. omega arith)) ∙ q) in
       let y = then-whole (endPartAt class s l (part s (first + 1) e)) (one (is 58) s (x .0)) i (x .2) in
       let o = one-has (is 58) s (x .0) (y .0) (y .1) in
       let lead = end-part (part s b (first + 1 - 1)) at (x .0) (x .1) (omega (arith, has-lt (is 58) s (x .0) (o .0))) in
@@ -67,8 +51,8 @@ module _ (class : ℕ → ℕ) (s : List ℕ) (l : Limits) where
       let rests : part s (x .0 + 1) i ≡ part s (first + 1) e = ap (λ (j : ℕ). part s j i) (sym (o .1)) ∙ rest .1 in
       let colons : byteAt s (x .0) ≡ byteAt s first = byte-is 58 s (x .0) (o .0) ∙ sym (byte-is 58 s first colon) in (
         omega (arith, lead .0, rest .0, o .1),
-        parted s at (x .0) i (lead .0) (omega (arith, rest .0, o .1)) h
-            ∙ (joined leads colons rests ∙ sym (parted s b first e after room within)),
+        part-parted s at (x .0) i (lead .0) (omega (arith, rest .0, o .1)) h
+            ∙ (joined leads colons rests ∙ sym (part-parted s b first e after room within)),
       )
     where
       joined : {u u′ v v′ : List ℕ} {x x′ : ℕ} → u ≡ u′ → x ≡ x′ → v ≡ v′ → u ++ (x ∷ v) ≡ u′ ++ (x′ ∷ v′)
@@ -78,9 +62,11 @@ module _ (class : ℕ → ℕ) (s : List ℕ) (l : Limits) where
       → endNameAt class s l b name at ≡ whole i → i ≤ length s → (at ≤ i) × (part s at i ≡ part s b (name .end))
   end-name b name named within at i q h =
       let first = ends (isName class) s b in
-      let Repeats : Named → Type 0 = λ n. n .end ≤ length s → endNameAt class s l b n at ≡ whole i → (at ≤ i) × (part s at i ≡ part s b (n .end)) in
+      let Repeats : Named → Type 0 =
+      λ n. n .end ≤ length s → endNameAt class s l b n at ≡ whole i → (at ≤ i) × (part s at i ≡ part s b (n .end)) in
       subst Repeats (sym (name-is class s b (l .part) name named .1)) (cond-cases Repeats (has (is 58) s first)
-      (λ t l′ q′. end-two-parts b first (ends (isName class) s (first + 1)) at i (ends-from (isName class) s b) (omega (arith, ends-from (isName class) s (first + 1))) l′ t q′ h)
+      (λ t l′ q′. end-two-parts b first (ends (isName class) s (first + 1)) at i (ends-from (isName class) s b)
+      (omega (arith, ends-from (isName class) s (first + 1))) l′ t q′ h)
       (λ t l′ q′. end-one-part b first at i q′ h)) within q
 
   -- an end tag begins with the start tag's name
@@ -93,6 +79,7 @@ module _ (class : ℕ → ℕ) (s : List ℕ) (l : Limits) where
       let on = name-on class s (l .part) named in
       let i-in : x .0 ≤ length s = omega (arith, ends-from (isSpace class) s (x .0), has-lt (is 62) s (blanks class s (x .0)) (o .0)) in
       let r = end-name b name named (on .1) at (x .0) (x .1) i-in in
-      let lengths : x .0 - at ≡ name .end - b = sym (length-slice at (x .0) s i-in) ∙ (ap length (r .1) ∙ length-slice b (name .end) s (on .1)) in
+      let lengths : x .0 - at ≡ name .end - b =
+      sym (length-slice at (x .0) s i-in) ∙ (ap length (r .1) ∙ length-slice b (name .end) s (on .1)) in
       let stop : at + (name .end - b) ≡ x .0 = omega (arith, r .0) in
       ap (part s at) stop ∙ r .1

@@ -59,10 +59,14 @@ word-kind kinds.Response = refl
 
 kind-word : (name : List ℕ) (k : Kind) → kindOf name ≡ whole k → name ≡ kindWord k
 unfolding kindOf
-kind-word name k = next kinds.SessionOpenRequest (next kinds.SessionOpenResponse (next kinds.SessionOk (next kinds.Ok (next kinds.Advisory (next kinds.Request (next kinds.Response unread))))))
+kind-word name k =
+    next kinds.SessionOpenRequest
+    (next kinds.SessionOpenResponse (next kinds.SessionOk (next kinds.Ok (next kinds.Advisory (next kinds.Request (next kinds.Response unread))))))
   where
-    next : (k′ : Kind) {others : Reading Kind} → (others ≡ whole k → name ≡ kindWord k) → cond (sameBytes name (kindWord k′)) (whole k′) others ≡ whole k → name ≡ kindWord k
-    next k′ further = cond-cases (λ r. r ≡ whole k → name ≡ kindWord k) (sameBytes name (kindWord k′)) (λ t q. same-eq name (kindWord k′) t ∙ ap kindWord (whole-same q)) (λ t. further)
+    next : (k′ : Kind) {others : Reading Kind} → (others ≡ whole k → name ≡ kindWord k) → cond (sameBytes name (kindWord k′)) (whole k′) others ≡ whole k
+        → name ≡ kindWord k
+    next k′ further =
+        cond-cases (λ r. r ≡ whole k → name ≡ kindWord k) (sameBytes name (kindWord k′)) (λ t q. same-eq name (kindWord k′) t ∙ ap kindWord (whole-same q)) (λ t. further)
 
 -- ---- a reading that is whole or 13
 
@@ -76,7 +80,9 @@ decided-then next thirteen g = thirteen
 
 decided-kind : (name : List ℕ) → Decided (kindOf name)
 unfolding kindOf
-decided-kind name = next kinds.SessionOpenRequest (next kinds.SessionOpenResponse (next kinds.SessionOk (next kinds.Ok (next kinds.Advisory (next kinds.Request (next kinds.Response thirteen))))))
+decided-kind name =
+    next kinds.SessionOpenRequest
+    (next kinds.SessionOpenResponse (next kinds.SessionOk (next kinds.Ok (next kinds.Advisory (next kinds.Request (next kinds.Response thirteen))))))
   where
     next : (k : Kind) {others : Reading Kind} → Decided others → Decided (cond (sameBytes name (kindWord k)) (whole k) others)
     next k others = cond-cases Decided (sameBytes name (kindWord k)) (λ t. read k) (λ t. others)
@@ -97,10 +103,13 @@ module _ (s : List ℕ) where
   only-child w none e q = unread q
   only-child w (more t inner none) e q = go (called s w t) refl q
     where
-      go : (b : Bool) → called s w t ≡ b → cond b (whole (record { tag = t; inside = inner })) noMessage ≡ whole e → (more t inner none ≡ more (e .tag) (e .inside) none) × Called s w (e .tag)
+      go : (b : Bool) → called s w t ≡ b → cond b (whole (record { tag = t; inside = inner })) noMessage ≡ whole e
+          → (more t inner none ≡ more (e .tag) (e .inside) none) × Called s w (e .tag)
       go true h q =
-          let is : record { tag = t; inside = inner } ≡ e = whole-same q in
-          (ap (λ (x : Element). more (x .tag) (x .inside) none) is, subst (λ (x : Element). Called s w (x .tag)) is (same-eq (part s (t .name .local) (t .name .end)) w h))
+          let is : record { tag = t; inside = inner } ≡ e = whole-same q in (
+            ap (λ (x : Element). more (x .tag) (x .inside) none) is,
+            subst (λ (x : Element). Called s w (x .tag)) is (same-eq (part s (t .name .local) (t .name .end)) w h),
+          )
       go false h q = unread q
   only-child w (more t inner (more t′ inner′ others)) e q = unread q
 
@@ -152,7 +161,8 @@ module _ (s : List ℕ) (l : Limits) where
         → (v : Quoted) × HasAttribute s w tag v × (next (found (v .from) (v .to)) ≡ whole m)
     needed-there {m = m} next h = go value refl h
       where
-        go : (r : Reading Quoted) → value ≡ r → (needed (foundIn r) >>= next) ≡ whole m → (v : Quoted) × HasAttribute s w tag v × (next (found (v .from) (v .to)) ≡ whole m)
+        go : (r : Reading Quoted) → value ≡ r → (needed (foundIn r) >>= next) ≡ whole m
+            → (v : Quoted) × HasAttribute s w tag v × (next (found (v .from) (v .to)) ≡ whole m)
         go (whole v) q h = (v, value-there v q, h)
         go (refused n p) q h = unread h
 
@@ -176,7 +186,8 @@ module _ (s : List ℕ) (l : Limits) where
     decided-of-kind kinds.Advisory =
         decided-then _ (decided-only s words.advisory (root .inside)) (λ e. decided-then _ (decided-first s words.advisoryType (e .inside)) (λ t. read _))
     decided-of-kind kinds.Request =
-        decided-then _ (decided-only s words.queryRequest (root .inside)) (λ e. decided-then _ (decided-needed (attributeOf classOf l s words.identity (e .tag))) (λ v. read _))
+        decided-then _ (decided-only s words.queryRequest (root .inside))
+        (λ e. decided-then _ (decided-needed (attributeOf classOf l s words.identity (e .tag))) (λ v. read _))
     decided-of-kind kinds.Response = decided-then _ (decided-only s words.queryResponse (root .inside)) (λ e. read _)
 
     pub decided : Decided rest
@@ -266,13 +277,15 @@ unfolding messageAt
 thirteen-is-none s l p q = go (documentAt classOf s l 0) refl
   where
     other : Holds Other s l
-    other = record { eight = λ h z. omega arith; nine = λ z. omega arith; ten = λ h z. omega arith; eleven = λ h z. omega arith; twelve = λ z. omega arith; fourteen = λ h z. omega arith }
+    other =
+        record { eight = λ h z. omega arith; nine = λ z. omega arith; ten = λ h z. omega arith; eleven = λ h z. omega arith; twelve = λ z. omega arith; fourteen = λ h z. omega arith }
 
     place : (r : Reading Message) → Decided r → r ≡ refused 13 p → p ≡ 0
     place _ (read m) h = unread (sym h)
     place _ thirteen h = cc
 
-    go : (d : Reading Element) → documentAt classOf s l 0 ≡ d → (p ≡ 0) × ((root : Element) × (documentAt classOf s l 0 ≡ whole root) × ((m : Message) → OneOfSeven s root m → ⊥))
+    go : (d : Reading Element) → documentAt classOf s l 0 ≡ d
+        → (p ≡ 0) × ((root : Element) × (documentAt classOf s l 0 ≡ whole root) × ((m : Message) → OneOfSeven s root m → ⊥))
     go (whole root) e =
         let h : rest s l root ≡ refused 13 p = sym (message-is s l root e) ∙ q in
         (place (rest s l root) (decided s l root) h, (root, e, λ m one. true-false (one-rest s l root (root-read classOf s l 0 root e) m one) (ap isWhole h)))

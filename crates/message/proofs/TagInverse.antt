@@ -1,94 +1,35 @@
--- Where a start tag with its attributes stands, as specs/Readable says by readers, the machine has read it: behind the white space after it the machine stands
--- before the next attribute. Assumes nothing.
+-- Where a start tag with its attributes stands, as specs/Readable says by readers, the machine has read it: behind the white space after it
+-- the machine stands before the next attribute. Assumes nothing.
 use Prim.Native.Nat.{ℕ, zero, suc, _+_, _-_, _<_, _≤_}
 use mathlib.Core.Path.{_≡_, refl, sym, _∙_, ap, subst}
 use mathlib.Core.Bool.{Bool, true, false, cond, true≢false}
 use mathlib.Core.List.{List, [], _∷_}
 use native.Mathlib.Omega.{arith}
 use lib.ListN.{length, take}
-use lib.Dec.{ltb, leb}
+use lib.Dec.{leb}
 use borrow.Author.Tests.{leb-false}
-use Rattle.message.specs.Class.{classOf, isStart, isName, isSpace}
-use Rattle.message.specs.Reading.{Reading, _>>=_, is, byteAt, has, ends, blanks}
+use Rattle.laws.proofs.Tests.{neither}
+use Rattle.message.specs.Class.{classOf, isStart, isSpace}
+use Rattle.message.specs.Reading.{Reading, is, byteAt, has, blanks}
 use Rattle.message.specs.Reading.Reading.{whole, refused}
-use Rattle.message.specs.Names.{Named, shortAt, partAt, nameAt}
+use Rattle.message.specs.Names.{Named, nameAt}
 use Rattle.message.specs.Limits.{Limits}
 use Rattle.message.specs.Elements.{part, isKnown, endsTag}
 use Rattle.message.specs.Readable.{MarkupMayBegin, NameStands, AttributeStands, AttributesStand, TagStands}
-use Rattle.message.proofs.Laws.{went, and-true, has-lt, has-byte, one-yes, ends-more, ends-from}
+use Rattle.message.proofs.Laws.{and-true, has-lt, has-byte, ends-more, ends-from, fails-byte}
+use Rattle.message.proofs.Bytes.{has-other, has-fails, end-no-start}
 use Rattle.message.proofs.Progress.{past-whole}
-use Rattle.message.proofs.Trees.{past-name, past-quoted, whole-same}
-use Rattle.message.proofs.Facts.{then-whole}
+use Rattle.message.proofs.Trees.{past-name, past-quoted}
 use Rattle.message.proofs.Automaton.{Ground, first, before, behind, inside, State, ground, opened, inTag, dead, goes, step}
 use Rattle.message.proofs.Dues.{isBehind, depth, opening, tooDeep, long, due, At}
 use Rattle.message.proofs.Going.{Outcome, at-has}
-use Rattle.message.proofs.Acting.{fails-byte}
-use Rattle.message.proofs.GoingMarkup.{byte-test}
 use Rattle.message.proofs.GoingNames.{Naming, NameRead, NameBefore, going-name}
-use Rattle.message.proofs.GoingAttributes.{or-both, Tagged, Fresh, spaced, going-fresh-name, going-quoted, next-tagged, end-no-start}
+use Rattle.message.proofs.GoingAttributes.{Tagged, Fresh, spaced, going-fresh-name, going-quoted, next-tagged}
 use Rattle.message.proofs.GoingAttributes as attributes
 use Rattle.message.proofs.GoingStarts.{names, slashed, Place, naming, name-before, tagged-there}
-use Rattle.message.proofs.Carried.{part-ends, name-is, name-same}
+use Rattle.message.proofs.Shapes.{name-is, name-same, name-refused}
 use Rattle.message.proofs.Alive.{state-one, alive-before, not-stuck-before}
 use Rattle.message.proofs.Accepted.{may-ground}
-
--- ---- a name that is whole under one limit is refused under another no later than it ends
-
-module _ (s : List ℕ) where
-  part-refused : (most at n q : ℕ) → has (isStart classOf) s at ≡ true → partAt classOf most s at ≡ refused n q → q ≡ at
-  unfolding partAt shortAt
-  part-refused most at n q starts r =
-      go (ltb most (ends (isName classOf) s at - at)) (went (λ next. shortAt classOf most s at) (one-yes (isStart classOf) s at starts) ∙ r)
-    where
-      go : (t : Bool) → cond t (refused 14 at) (whole (ends (isName classOf) s at)) ≡ refused n q → q ≡ at
-      go true e = cc
-      go false e = let z : _≡_ {A = ℕ} 0 1 = cc in absurd (omega arith)
-
-  name-refused : (most most′ b n q : ℕ) (name : Named) → 0 < b → nameAt classOf most s b ≡ whole name → nameAt classOf most′ s b ≡ refused n q → q ≤ name .end
-  unfolding nameAt
-  name-refused most most′ b n q name pos h r =
-      let x = then-whole (behind most) (partAt classOf most s b) name h in
-      let y = part-ends classOf s b most (x .0) (x .1) in
-      go (x .0) (y .0) (y .1) (x .2) (partAt classOf most′ s b) refl r
-    where
-      two : ℕ → ℕ → Reading Named
-      two end last = whole (record { local = end + 1; end = last })
-
-      behind : ℕ → ℕ → Reading Named
-      behind m end = cond (has (is 58) s end) (partAt classOf m s (end + 1) >>= two end) (whole (record { local = b; end = end }))
-
-      later : (end last : ℕ) → two end last ≡ whole name → last ≤ name .end
-      later end last e = omega (arith, ap (λ (m : Named). m .end) (whole-same e))
-
-      second : (end : ℕ) (a : Reading ℕ) → partAt classOf most s (end + 1) ≡ a → (a >>= two end) ≡ whole name → (partAt classOf most′ s (end + 1) >>= two end) ≡ refused n q → q ≤ name .end
-      second end (refused m i) e w g = let z : _≡_ {A = ℕ} 0 1 = cc in absurd (omega arith)
-      second end (whole last) e w g =
-          let y = part-ends classOf s (end + 1) most last e in
-          turn (partAt classOf most′ s (end + 1)) refl g (y .0) (omega (arith, later end last w, y .1, ends-from (isName classOf) s (end + 1)))
-        where
-          turn : (a : Reading ℕ) → partAt classOf most′ s (end + 1) ≡ a → (a >>= two end) ≡ refused n q → has (isStart classOf) s (end + 1) ≡ true → end + 1 ≤ name .end → q ≤ name .end
-          turn (whole i) e′ g′ starts le = let z : _≡_ {A = ℕ} 0 1 = cc in absurd (omega arith)
-          turn (refused m i) e′ g′ starts le = let same : i ≡ q = cc in omega (arith, part-refused most′ (end + 1) m i starts e′)
-
-      split : (end : ℕ) (t : Bool) → cond t (partAt classOf most s (end + 1) >>= two end) (whole (record { local = b; end = end })) ≡ whole name
-          → cond t (partAt classOf most′ s (end + 1) >>= two end) (whole (record { local = b; end = end })) ≡ refused n q → q ≤ name .end
-      split end true w g = second end (partAt classOf most s (end + 1)) refl w g
-      split end false w g = let z : _≡_ {A = ℕ} 0 1 = cc in absurd (omega arith)
-
-      go : (end : ℕ) → has (isStart classOf) s b ≡ true → end ≡ ends (isName classOf) s b → behind most end ≡ whole name
-          → (a : Reading ℕ) → partAt classOf most′ s b ≡ a → (a >>= behind most′) ≡ refused n q → q ≤ name .end
-      go end starts run w (refused m i) e g =
-          let same : i ≡ q = cc in
-          omega (arith, part-refused most′ b m i starts e, past-whole (λ m. m .end) (length s) (b - 1) h (past-name classOf s (b - 1) most b (omega arith)))
-      go end starts run w (whole end′) e g = split end (has (is 58) s end) w (subst (λ (k : ℕ). behind most′ k ≡ refused n q) (part-ends classOf s b most′ end′ e .1 ∙ sym run) g)
-
--- a byte that passes a test is none that fails it
-no-byte : (s : List ℕ) (b i : ℕ) (test : ℕ → Bool) → test b ≡ false → has test s i ≡ true → has (is b) s i ≡ false
-no-byte s b i test fails h = go (has (is b) s i) refl
-  where
-    go : (t : Bool) → has (is b) s i ≡ t → has (is b) s i ≡ false
-    go true e = absurd (true≢false (sym h ∙ byte-test s b i test fails e))
-    go false e = e
 
 -- the places of an attribute
 attribute-on : (s : List ℕ) (last to : ℕ) (stands : AttributeStands s last to)
@@ -97,15 +38,17 @@ attribute-on s last to stands =
     let q : ℕ = blanks classOf s last in
     let e : ℕ = stands .name .end in
     let b : last < q = omega (arith, ends-more (isSpace classOf) s last (stands .space), ends-from (isSpace classOf) s (last + 1)) in
-    let c : q - 1 < e = past-whole (λ m. m .end) (length s) (q - 1) (stands .named .1) (past-name classOf s (q - 1) (stands .named .0) q (omega arith)) .0 in
-    let d : e - 1 < stands .value .to = past-whole (λ v. v .to) (length s) (e - 1) (stands .valued) (past-quoted classOf s (e - 1) e (omega arith)) .0 in
+    let c : q - 1 < e =
+    past-whole (λ m. m .end) (length s) (q - 1) (stands .named .1) (past-name classOf s (q - 1) (stands .named .0) q (omega arith)) .0 in
+    let d : e - 1 < stands .value .to =
+    past-whole (λ v. v .to) (length s) (e - 1) (stands .valued) (past-quoted classOf s (e - 1) e (omega arith)) .0 in
     (b, omega arith, omega (arith, stands .ends))
 
 -- ---- the machine stands at the place p
 
 module _ (l : Limits) (s : List ℕ) (p : ℕ) (st : State) (here : At l s st p) where
   -- a name that stands before p was read
-  module _ (N : Naming l s) (b : ℕ) (at-b : NameBefore l s N b) (name : Named) (most : ℕ) (named : nameAt classOf most s b ≡ whole name) (pos : 0 < b) (less : name .end < p) where
+  module _ (N : Naming l s) (b : ℕ) (at-b : NameBefore l s N b) (name : Named) (most : ℕ) (named : nameAt classOf most s b ≡ whole name) (less : name .end < p) where
     abbrev Was : Type 0
     Was = (nameAt classOf (l .part) s b ≡ whole name) × NameRead l s N b name
 
@@ -117,7 +60,7 @@ module _ (l : Limits) (s : List ℕ) (p : ℕ) (st : State) (here : At l s st p)
             let same : n ≡ name = name-same classOf s b (l .part) most n name q named in
             (q ∙ ap whole same, subst (NameRead l s N b) same read)
         go (refused n i) q stuck =
-            absurd (not-stuck-before l s n i p st stuck here (omega (arith, name-refused s most (l .part) b n i name pos named q)))
+            absurd (not-stuck-before l s n i p st stuck here (omega (arith, name-refused classOf s b most (l .part) n i name named q)))
 
   -- behind a `<` where markup may begin
   pub record OpenedAt (at : ℕ) : Type 0 where
@@ -128,22 +71,25 @@ module _ (l : Limits) (s : List ℕ) (p : ℕ) (st : State) (here : At l s st p)
 
   pub opened-at : (at : ℕ) → MarkupMayBegin (take at s) → has (is 60) s at ≡ true → at < p → OpenedAt at
   opened-at at may tag less =
-      let a = alive-before l s p at st here less in
-      let g = may-ground l s at (a .0) (a .2) may in
-      let marked : At l s (ground (g .0)) at = subst (λ (x : State). At l s x at) (g .1) (a .2) in
-      let free : due l s (ground (g .0)) at ≡ false = subst (λ (x : State). due l s x at ≡ false) (g .1) (a .3) in
+      let a = alive-before l s p at st here less .1 in
+      let g = may-ground l s at (a .from) (a .here) may in
+      let marked : At l s (ground (g .0)) at = subst (λ (x : State). At l s x at) (g .1) (a .here) in
+      let free : due l s (ground (g .0)) at ≡ false = subst (λ (x : State). due l s x at ≡ false) (g .1) (a .free) in
       record { from = g .0; marked = marked; free = free; behind = at-has l s (is 60) at marked tag free (rw (has-byte (is 60) s at tag)) }
 
   -- the machine goes on there
-  pub goes-at : (i : ℕ) (x : State) → At l s x i → i < p → (due l s x i ≡ false) × ((next : State) × (step x (byteAt s i) ≡ goes next) × At l s next (i + 1))
+  pub goes-at : (i : ℕ) (x : State) → At l s x i → i < p
+      → (due l s x i ≡ false) × ((next : State) × (step x (byteAt s i) ≡ goes next) × At l s next (i + 1))
   goes-at i x at-i less =
       let a = alive-before l s p i st here less in
-      let same : a .0 ≡ x = state-one l s i (a .0) x (a .2) at-i in
-      (subst (λ (y : State). due l s y i ≡ false) same (a .3), (a .1, subst (λ (y : State). step y (byteAt s i) ≡ goes (a .1)) same (a .4), a .5))
+      let same : a .1 .from ≡ x = state-one l s i (a .1 .from) x (a .1 .here) at-i in (
+        subst (λ (y : State). due l s y i ≡ false) same (a .1 .free),
+        (a .0, subst (λ (y : State). step y (byteAt s i) ≡ goes (a .0)) same (a .1 .by), a .2),
+      )
 
   module _ (at : ℕ) (o : OpenedAt at) (tag : has (is 60) s at ≡ true) (starts : has (isStart classOf) s (at + 1) ≡ true) (less : at + 1 < p) where
     none : (b : ℕ) → isStart classOf b ≡ false → has (is b) s (at + 1) ≡ false
-    none b fails = no-byte s b (at + 1) (isStart classOf) fails starts
+    none b fails = has-other (isStart classOf) b fails s (at + 1) starts
 
     front : isBehind (o .from) ≡ false
     unfolding classOf
@@ -154,7 +100,8 @@ module _ (l : Limits) (s : List ℕ) (p : ℕ) (st : State) (here : At l s st p)
         go before h = refl
         go behind h =
             let x = goes-at (at + 1) (opened behind) h less .1 in
-            let y : dead ≡ goes (x .0) = sym (rw (fails-byte (is 33) s (at + 1) (has-lt (isStart classOf) s (at + 1) starts) (none 33 refl))) ∙ x .1 in
+            let y : dead ≡ goes (x .0) =
+            sym (rw (fails-byte (is 33) s (at + 1) (has-lt (isStart classOf) s (at + 1) starts) (none 33 refl))) ∙ x .1 in
             let z : _≡_ {A = ℕ} 0 1 = cc in absurd (omega arith)
         go (inside b v os) h = refl
 
@@ -180,14 +127,17 @@ module _ (l : Limits) (s : List ℕ) (p : ℕ) (st : State) (here : At l s st p)
       where
         go : (t : Bool) → leb (l .levels) (depth (o .from)) ≡ t → t ≡ false
         go true e =
-            let deep : tooDeep l s (o .from) at ≡ false = or-both (opening l s (o .from) at) (tooDeep l s (o .from) at) (and-true _ tag ∙ o .free) .1 in
+            let deep : tooDeep l s (o .from) at ≡ false =
+            neither (opening l s (o .from) at) (tooDeep l s (o .from) at) (and-true _ tag ∙ o .free) .1 in
             absurd (true≢false (sym (rw (e, front, starts)) ∙ deep))
         go false e = refl
 
     -- behind the name
-    tag-named : (name : Named) → NameStands s (at + 1) name → name .end < p → Tagged l s (part s (at + 1) (name .end)) (names (o .from)) [] (name .end)
+    tag-named : (name : Named) → NameStands s (at + 1) name → name .end < p
+        → Tagged l s (part s (at + 1) (name .end)) (names (o .from)) [] (name .end)
     tag-named name stands far =
-        let w = name-was (naming l s (o .from) at place tag room) (at + 1) (name-before l s (o .from) at place tag room) name (stands .0) (stands .1) (omega arith) far in
+        let w = name-was (naming l s (o .from) at place tag room) (at + 1) (name-before l s (o .from) at place tag room) name (stands .0)
+        (stands .1) far in
         tagged-there l s (o .from) at place tag room name (w .0) (w .1)
 
   -- ---- attributes
@@ -210,30 +160,38 @@ module _ (l : Limits) (s : List ℕ) (p : ℕ) (st : State) (here : At l s st p)
       no-end = go (has endsTag s q) refl
         where
           go : (t : Bool) → has endsTag s q ≡ t → has endsTag s q ≡ false
-          go true h = absurd (true≢false (sym begins ∙ end-no-start s q h))
+          go true h = absurd (true≢false (sym begins ∙ has-fails endsTag (isStart classOf) end-no-start s q h))
           go false h = h
 
       -- the limit leaves room, since the machine goes on
       room-there : leb (l .attributes) (length seen) ≡ false
       room-there =
           let free = goes-at q (inTag true n seen o) (spaced l s n o seen last tagged (stands .space)) (omega (arith, on .1, on .2)) .0 in
-          or-both (leb (l .attributes) (length seen)) (long l s q) (and-true _ begins ∙ free) .0
+          neither (leb (l .attributes) (length seen)) (long l s q) (and-true _ begins ∙ free) .0
 
       fresh-there : Fresh l s n o seen last tagged no-end e
       fresh-there =
-          let w = name-was (attributes.naming l s n o seen) q (attributes.before l s n o seen last tagged no-end (stands .space) room-there) (stands .name) (stands .named .0) (stands .named .1) (omega (arith, on .0)) (omega (arith, on .2)) in
-          go (isKnown (part s q e) seen) (going-fresh-name l s n o seen last tagged no-end (stands .space) (leb-false (l .attributes) (length seen) room-there) (stands .name) (w .0) (w .1))
+          let w = name-was (attributes.naming l s n o seen) q (attributes.before l s n o seen last tagged no-end (stands .space) room-there)
+          (stands .name) (stands .named .0) (stands .named .1) (omega (arith, on .2)) in
+          go (isKnown (part s q e) seen)
+          (going-fresh-name l s n o seen last tagged no-end (stands .space) (leb-false (l .attributes) (length seen) room-there)
+          (stands .name) (w .0) (w .1))
         where
-          go : (t : Bool) → Outcome l s (Fresh l s n o seen last tagged no-end) (cond t (refused 9 e) (whole e)) → Fresh l s n o seen last tagged no-end e
+          go : (t : Bool) → Outcome l s (Fresh l s n o seen last tagged no-end) (cond t (refused 9 e) (whole e))
+              → Fresh l s n o seen last tagged no-end e
           go true stuck = absurd (not-stuck-before l s 9 e p st stuck here (omega (arith, on .2)))
           go false fresh = fresh
 
       one-more : Tagged l s n o (part s q e ∷ seen) to
       one-more =
-          let there : At l s (inTag false n (part s q e ∷ seen) o) (stands .value .to + 1) = subst (Outcome l s (λ v. At l s (inTag false n (part s q e ∷ seen) o) (v .to + 1))) (stands .valued) (going-quoted l s n o (part s q e ∷ seen) e (fresh-there .acts)) in
-          subst (Tagged l s n o (part s q e ∷ seen)) (stands .ends) (next-tagged l s n o seen last tagged e (stands .value) no-end fresh-there (stands .valued) there)
+          let there : At l s (inTag false n (part s q e ∷ seen) o) (stands .value .to + 1) = subst (Outcome l s
+          (λ v. At l s (inTag false n (part s q e ∷ seen) o) (v .to + 1))) (stands .valued)
+          (going-quoted l s n o (part s q e ∷ seen) e (fresh-there .acts)) in
+          subst (Tagged l s n o (part s q e ∷ seen)) (stands .ends)
+          (next-tagged l s n o seen last tagged e (stands .value) no-end fresh-there (stands .valued) there)
 
-    all-tagged : (k from to : ℕ) → AttributesStand s k from to → to < p → Tagged l s n o [] from → (seen : List (List ℕ)) × Tagged l s n o seen to × (length seen ≡ k)
+    all-tagged : (k from to : ℕ) → AttributesStand s k from to → to < p → Tagged l s n o [] from
+        → (seen : List (List ℕ)) × Tagged l s n o seen to × (length seen ≡ k)
     all-tagged zero from to stand less begin = ([], subst (Tagged l s n o []) stand begin, refl)
     all-tagged (suc k) from to stand less begin =
         let further : stand .0 < to = omega (arith, attribute-on s (stand .0) to (stand .2)) in
@@ -252,17 +210,21 @@ module _ (l : Limits) (s : List ℕ) (p : ℕ) (st : State) (here : At l s st p)
       let name : Named = stands .name in
       let starts : has (isStart classOf) s (at + 1) ≡ true = name-is classOf s (at + 1) (stands .named .0) name (stands .named .1) .0 in
       let far : name .end < p = omega (arith, attributes-on k (name .end) to (stands .attributes)) in
-      let wide : at < name .end = past-whole (λ m. m .end) (length s) at (stands .named .1) (past-name classOf s at (stands .named .0) (at + 1) (omega arith)) .0 in
+      let wide : at < name .end =
+      past-whole (λ m. m .end) (length s) at (stands .named .1) (past-name classOf s at (stands .named .0) (at + 1) (omega arith)) .0 in
       let o : OpenedAt at = opened-at at may (stands .opens) (omega arith) in
       let n : List ℕ = part s (at + 1) (name .end) in
-      let x = all-tagged n (names (o .from)) k (name .end) to (stands .attributes) less (tag-named at o (stands .opens) starts (omega arith) name (stands .named) far) in
+      let x = all-tagged n (names (o .from)) k (name .end) to (stands .attributes) less
+      (tag-named at o (stands .opens) starts (omega arith) name (stands .named) far) in
       (n, names (o .from), x .0, x .1, x .2)
 
-pub tag-inverse : (l : Limits) (s : List ℕ) (p : ℕ) (st : State) → At l s st p → (at k to : ℕ) → MarkupMayBegin (take at s) → TagStands s at k to
+pub tag-inverse : (l : Limits) (s : List ℕ) (p : ℕ) (st : State) → At l s st p → (at k to : ℕ) → MarkupMayBegin (take at s)
+    → TagStands s at k to
     → has (isSpace classOf) s to ≡ true → p ≡ blanks classOf s to
     → (n : List ℕ) × (seen : List (List ℕ)) × (o : List (List ℕ)) × (st ≡ inTag true n seen o) × (length seen ≡ k)
 tag-inverse l s p st here at k to may stands space p-is =
     let less : to < p = omega (arith, p-is, ends-more (isSpace classOf) s to space, ends-from (isSpace classOf) s (to + 1)) in
     let x = tagged-at l s p st here at k to may stands less in
-    let there : At l s (inTag true (x .0) (x .2) (x .1)) p = subst (At l s (inTag true (x .0) (x .2) (x .1))) (sym p-is) (spaced l s (x .0) (x .1) (x .2) to (x .3) space) in
+    let there : At l s (inTag true (x .0) (x .2) (x .1)) p =
+    subst (At l s (inTag true (x .0) (x .2) (x .1))) (sym p-is) (spaced l s (x .0) (x .1) (x .2) to (x .3) space) in
     (x .0, x .2, x .1, state-one l s p st (inTag true (x .0) (x .2) (x .1)) here there, x .4)

@@ -84,7 +84,8 @@ module _ (class : ℕ → ℕ) (s : List ℕ) (k : ℕ) where
   unfolding openedAt equalsAt
   past-opened at h =
       past-then place place (length s) k _ (equalsAt class s at) (
-      past-then place place (length s) k _ (one (is 61) s (blanks class s at)) (past-one s k (is 61) (blanks class s at) (omega (arith, ends-from (isSpace class) s at))) (λ next p q.
+      past-then place place (length s) k _ (one (is 61) s (blanks class s at))
+      (past-one s k (is 61) (blanks class s at) (omega (arith, ends-from (isSpace class) s at))) (λ next p q.
       omega (arith, p, ends-from (isSpace class) s next, ends-le (isSpace class) s next q))) (λ mark p q.
       past-one s k isQuote mark (omega arith))
 
@@ -121,7 +122,8 @@ module _ (class : ℕ → ℕ) (s : List ℕ) (k : ℕ) where
   free-stops (suc fuel) at h =
       every-then (Stops s k) (Stops s k) _ (textAt class (length s) s at) (text-stops (length s) at h) (λ stop p.
       cond-cases AtTag (has (is 33) s (stop + 1))
-      (λ t. every-then (λ e. (k < e) × (e ≤ length s)) (Stops s k) _ (bangAt class s stop) (past-bang class s k stop (p .0)) (λ e q. free-stops fuel e (omega (arith, q .0))))
+      (λ t. every-then (λ e. (k < e) × (e ≤ length s)) (Stops s k) _ (bangAt class s stop) (past-bang class s k stop (p .0))
+      (λ e q. free-stops fuel e (omega (arith, q .0))))
       (λ t. cond-cases AtTag (has (is 63) s (stop + 1)) (λ u. tt) (λ u. p)))
 
 -- ---- what is known of a reading that was whole
@@ -141,7 +143,8 @@ module _ (class : ℕ → ℕ) (s : List ℕ) where
   unfolding quotedAt
   quoted-every at =
       every-then (λ e. (at < e) × (e ≤ length s)) (Quoting at) _ (openedAt class s at) (past-opened class s at at (omega arith)) (λ begin p.
-      every-then (λ to. (begin ≤ to) × (to < length s)) (Quoting at) _ (valueAt class (length s) (byteAt s (begin - 1)) s begin) (value-stops class s begin (length s) (byteAt s (begin - 1)) begin (omega arith)) (λ stop q.
+      every-then (λ to. (begin ≤ to) × (to < length s)) (Quoting at) _ (valueAt class (length s) (byteAt s (begin - 1)) s begin)
+      (value-stops class s begin (length s) (byteAt s (begin - 1)) begin (omega arith)) (λ stop q.
       (p .0, q .0, q .1)))
 
   pub quoted-on : {at : ℕ} {v : Quoted} → quotedAt class s at ≡ whole v → (at < v .from) × (v .from ≤ v .to) × (v .to < length s)
@@ -205,7 +208,8 @@ module _ (class : ℕ → ℕ) (s : List ℕ) (k : ℕ) where
   module _ (l : Limits) where
     pub past-fresh : (seen : List (List ℕ)) (at p : ℕ) → k < p → Behind s k place (freshAt class s l seen at p)
     past-fresh seen at p h =
-        every-so (Fresh class s l seen at p) (λ e. (k < e) × (e ≤ length s)) (λ e f. omega (arith, fresh-past class s l seen at f)) (freshAt class s l seen at p) (fresh-every class s l seen at p)
+        every-so (Fresh class s l seen at p) (λ e. (k < e) × (e ≤ length s)) (λ e f. omega (arith, fresh-past class s l seen at f)) (freshAt class s l seen at p)
+        (fresh-every class s l seen at p)
 
     pub past-attributes : (fuel : ℕ) (seen : List (List ℕ)) (at : ℕ) → k < at → Behind s k place (attributesAt class s l fuel seen at)
     unfolding attributesAt
@@ -215,18 +219,21 @@ module _ (class : ℕ → ℕ) (s : List ℕ) (k : ℕ) where
         let on : k < p = omega (arith, ends-from (isSpace class) s at) in
         cond-cases (Behind s k place) (has endsTag s p) (λ t. (on, omega (arith, has-lt endsTag s p t)))
         (λ t. past-then place place (length s) k _ (freshAt class s l seen at p) (past-fresh seen at p on) (λ e q q′.
-        past-then (λ v. v .to) place (length s) k _ (quotedAt class s e) (past-quoted e q) (λ v r r′. past-attributes fuel (part s p e ∷ seen) (v .to + 1) (omega arith))))
+        past-then (λ v. v .to) place (length s) k _ (quotedAt class s e) (past-quoted e q)
+        (λ v r r′. past-attributes fuel (part s p e ∷ seen) (v .to + 1) (omega arith))))
 
     pub past-with-name : (b : ℕ) (n : Named) → k < n .end → Behind s k (λ st. st .from) (withNameAt class s l b n)
     unfolding withNameAt
     past-with-name b n h =
-        past-then place (λ st. st .from) (length s) k _ (attributesAt class s l (length s) [] (n .end)) (past-attributes (length s) [] (n .end) h) (λ stop p q. past-start-end b n stop p)
+        past-then place (λ st. st .from) (length s) k _ (attributesAt class s l (length s) [] (n .end)) (past-attributes (length s) [] (n .end) h)
+        (λ stop p q. past-start-end b n stop p)
 
     pub past-start : (at : ℕ) → k ≤ at → Behind s k (λ st. st .from) (startAt class s l at)
     unfolding startAt
     past-start at h =
         past-then place (λ st. st .from) (length s) k _ (one (is 60) s at) (past-one s k (is 60) at h) (λ b p q.
-        past-then (λ n. n .end) (λ st. st .from) (length s) k _ (nameAt class (l .part) s b) (past-name class s k (l .part) b (omega arith)) (λ n p′ q′. past-with-name b n p′))
+        past-then (λ n. n .end) (λ st. st .from) (length s) k _ (nameAt class (l .part) s b) (past-name class s k (l .part) b (omega arith))
+        (λ n p′ q′. past-with-name b n p′))
 
     past-end-part : (w : List ℕ) (at : ℕ) → k < at → Behind s k place (endPartAt class s l w at)
     unfolding endPartAt
@@ -244,7 +251,8 @@ module _ (class : ℕ → ℕ) (s : List ℕ) (k : ℕ) where
     pub past-end-tag : (b : ℕ) (n : Named) (at : ℕ) → k < at → Behind s k place (endTagAt class s l b n at)
     unfolding endTagAt
     past-end-tag b n at h =
-        past-then place place (length s) k _ (endNameAt class s l b n at) (past-end-name b n at h) (λ i p q. past-one s k (is 62) (blanks class s i) (omega (arith, ends-from (isSpace class) s i)))
+        past-then place place (length s) k _ (endNameAt class s l b n at) (past-end-name b n at h)
+        (λ i p q. past-one s k (is 62) (blanks class s i) (omega (arith, ends-from (isSpace class) s i)))
 
     -- ---- elements
 
@@ -255,22 +263,28 @@ module _ (class : ℕ → ℕ) (s : List ℕ) (k : ℕ) where
       past-content (suc fuel) at h =
           every-then (Stops s k) (λ c. (k < c .end) × (c .end ≤ length s)) _ (freeAt class s (length s) at) (free-stops class s k (length s) at (omega arith)) (λ stop p.
           cond-cases (Behind s k (λ c. c .end)) (has (is 47) s (stop + 1))
-          (λ t. past-then place (λ c. c .end) (length s) k _ (endTagAt class s l (start .begin) (start .name) (stop + 2)) (past-end-tag (start .begin) (start .name) (stop + 2) (omega (arith, p .0))) (λ e q q′. (q, q′)))
+          (λ t. past-then place (λ c. c .end) (length s) k _ (endTagAt class s l (start .begin) (start .name) (stop + 2))
+          (past-end-tag (start .begin) (start .name) (stop + 2) (omega (arith, p .0))) (λ e q q′. (q, q′)))
           (λ t. past-then (λ e. e .tag .end) (λ c. c .end) (length s) k _ (child stop) (grows stop (p .0)) (λ e q q′.
-          past-then (λ c. c .end) (λ c. c .end) (length s) k _ (contentAt class s l fuel child start (e .tag .end)) (past-content fuel (e .tag .end) q) (λ c r r′. (r, r′)))))
+          past-then (λ c. c .end) (λ c. c .end) (length s) k _ (contentAt class s l fuel child start (e .tag .end)) (past-content fuel (e .tag .end) q)
+          (λ c r r′. (r, r′)))))
 
       past-rest : k < start .from → start .from ≤ length s → Behind s k (λ e. e .tag .end) (restAt class s l child start)
       unfolding restAt
       past-rest h l′ =
           cond-cases (Behind s k (λ e. e .tag .end)) (start .empty) (λ t. (h, l′))
-          (λ t. past-then (λ c. c .end) (λ e. e .tag .end) (length s) k _ (contentAt class s l (length s) child start (start .from)) (past-content (length s) (start .from) h) (λ c p q. (p, q)))
+          (λ t. past-then (λ c. c .end) (λ e. e .tag .end) (length s) k _ (contentAt class s l (length s) child start (start .from))
+          (past-content (length s) (start .from) h) (λ c p q. (p, q)))
 
     past-element : (depth at : ℕ) → k ≤ at → Behind s k (λ e. e .tag .end) (elementAt class s l depth at)
     unfolding elementAt tooDeepAt
-    past-element zero at h = one-cases (Behind s k (λ e. e .tag .end)) (is 60) s at _ (λ t. one-cases (Behind s k (λ e. e .tag .end)) (isStart class) s (at + 1) _ (λ t′. tt) tt) tt
+    past-element zero at h =
+        one-cases (Behind s k (λ e. e .tag .end)) (is 60) s at _ (λ t. one-cases (Behind s k (λ e. e .tag .end)) (isStart class) s (at + 1) _ (λ t′. tt) tt) tt
     past-element (suc depth) at h =
-        past-then (λ st. st .from) (λ e. e .tag .end) (length s) k _ (startAt class s l at) (past-start at h) (λ start p q. past-rest (elementAt class s l depth) (past-element depth) start p q)
+        past-then (λ st. st .from) (λ e. e .tag .end) (length s) k _ (startAt class s l at) (past-start at h)
+        (λ start p q. past-rest (elementAt class s l depth) (past-element depth) start p q)
 
 -- an element that is read whole ends past its `<`, and within the message
-pub element-on : (class : ℕ → ℕ) (s : List ℕ) (l : Limits) (depth at : ℕ) (e : Element) → elementAt class s l depth at ≡ whole e → (at < e .tag .end) × (e .tag .end ≤ length s)
+pub element-on : (class : ℕ → ℕ) (s : List ℕ) (l : Limits) (depth at : ℕ) (e : Element) → elementAt class s l depth at ≡ whole e
+    → (at < e .tag .end) × (e .tag .end ≤ length s)
 element-on class s l depth at e q = past-whole (λ x. x .tag .end) (length s) at q (past-element class s at l depth at (omega arith))

@@ -1,21 +1,38 @@
--- The way of the machine through the first bytes of a message: where nothing is due before a place, the state there is the one that the bytes
--- before it lead to. Assumes nothing.
-use Prim.Native.Nat.{ℕ, zero, suc, _+_, _<_, _≤_}
-use mathlib.Core.Path.{_≡_, refl}
+-- The way of the machine through the first bytes of a message: where nothing is due before a place, the state there is the one that the
+-- bytes before it lead to. Assumes nothing.
+use Prim.Native.Nat.{ℕ, zero, suc, _<_, _≤_}
+use mathlib.Core.Path.{_≡_, refl, sym}
 use mathlib.Core.Bool.{Bool, true, false, cond, not, _&&_}
 use mathlib.Core.List.{List, [], _∷_, _++_}
 use native.Mathlib.Omega.{arith}
 use lib.ListN.{length, take}
 use lib.Seq.{take-suc}
-use lib.Dec.{ltb}
+use lib.Dec.{ltb, leb}
 use borrow.Author.Tests.{ltb-true, not-true}
+use Rattle.laws.proofs.Tests.{true-false}
 use Rattle.message.specs.Reading.{byteAt}
 use Rattle.message.specs.Limits.{Limits}
 use Rattle.message.proofs.Laws.{both-first, both-second}
-use Rattle.message.proofs.Automaton.{first, State, ground, Next, dead, goes, step, steps}
+use Rattle.message.proofs.Automaton.{first, State, ground, Next, dead, goes, step, steps, number, numbered}
 use Rattle.message.proofs.Dues.{due, further, stateAt, At}
 
 -- ---- steps
+
+pub goes-dead : {st : State} → goes st ≡ dead → ⊥
+goes-dead e = let z : _≡_ {A = ℕ} 0 1 = cc in omega arith
+
+pub goes-same : {st st′ : State} → goes st ≡ goes st′ → st ≡ st′
+goes-same e = cc
+
+-- a digit, by whether the number is too great
+pub numbered-small : (hex : Bool) (n : ℕ) (k : State) (t : Bool) (e : leb n 1114111 ≡ t) → t ≡ true
+    → (small : leb n 1114111 ≡ true) × (numbered hex n t e k ≡ goes (number hex n small k))
+numbered-small hex n k true e h = (e, refl)
+numbered-small hex n k false e h = absurd (true-false h refl)
+
+pub numbered-great : (hex : Bool) (n : ℕ) (k : State) (t : Bool) (e : leb n 1114111 ≡ t) → t ≡ false → numbered hex n t e k ≡ dead
+numbered-great hex n k true e h = absurd (true-false refl h)
+numbered-great hex n k false e h = refl
 
 pub steps-on : (st : State) {next : State} (x : ℕ) (u : List ℕ) → step st x ≡ goes next → steps st (x ∷ u) ≡ steps next u
 unfolding steps
@@ -66,10 +83,10 @@ module _ (l : Limits) (s : List ℕ) where
         free = not-true (due l s from i) (both-second (ltb i (length s)) (not (due l s from i)) e);
         by = q;
       }
-      turn from here false e q = let z : _≡_ {A = ℕ} 0 1 = cc in absurd (omega arith)
+      turn from here false e q = absurd (goes-dead (sym q))
 
       go : (next : Next) → stateAt l s i ≡ next → further l s next i ≡ goes st → Came i st
-      go dead e q = let z : _≡_ {A = ℕ} 0 1 = cc in absurd (omega arith)
+      go dead e q = absurd (goes-dead (sym q))
       go (goes from) e q = turn from e (ltb i (length s) && not (due l s from i)) refl q
 
 pub at-within : (l : Limits) (s : List ℕ) (i : ℕ) (st : State) → At l s st i → i ≤ length s

@@ -23,7 +23,8 @@ module _ (class : ℕ → ℕ) (s : List ℕ) (l : Limits) where
 
   each-read : (depth : ℕ) (es : Elements) → Reads class s l (elementAt class s l depth) es → EachRead es
   each-read depth none r = tt
-  each-read depth (more t inner others) r = (was-read depth (t .begin - 1) (record { tag = t; inside = inner }) (r .0), each-read depth others (r .1))
+  each-read depth (more t inner others) r =
+      (was-read depth (t .begin - 1) (record { tag = t; inside = inner }) (r .0), each-read depth others (r .1))
 
   pub root-read : (at : ℕ) (root : Element) → documentAt class s l at ≡ whole root → WasRead root
   root-read at root q = let x = document-element class s l at root q in was-read (l .levels) (x .0) root (x .1)
