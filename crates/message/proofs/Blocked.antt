@@ -10,13 +10,11 @@ use borrow.Author.Tests.{lt-ltb, le-leb}
 use Rattle.laws.proofs.Tests.{or-last}
 use Rattle.message.specs.Class.{classOf, isStart, isName}
 use Rattle.message.specs.Reading.{is, byteAt, has, ends}
-use Rattle.message.specs.Reading as reading
 use Rattle.message.specs.Limits.{linkLimits}
 use Rattle.message.specs.Readable.{Continues, MarkupMayBegin, endTags, Open, PartStands}
 use Rattle.message.specs.Due.{Opening, Due, dead, unfinished, level, attribute, opening, long}
 use Rattle.message.proofs.Laws.{or-true}
 use Rattle.message.proofs.Automaton.{Ground, first, before, behind, inside, State, ground, inTag, goes, step, steps}
-use Rattle.message.proofs.Automaton as automaton
 use Rattle.message.proofs.Dues as dues
 use Rattle.message.proofs.Dues.{isBehind, depth, tooDeep, due, Here}
 use Rattle.message.proofs.Accepted.{steps-from, readable-ends, goes-continues, may-ground}

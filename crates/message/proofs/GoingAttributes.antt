@@ -10,7 +10,6 @@ use borrow.Author.Tests.{lt-leb, ltb-true, ltb-false}
 use Rattle.laws.proofs.Tests.{neither}
 use Rattle.message.specs.Class.{classOf, isStart, isName, isSpace}
 use Rattle.message.specs.Reading.{Reading, _>>=_, is, byteAt, has, one, ends, openedAt}
-use Rattle.message.specs.Reading as reading
 use Rattle.message.specs.Reading.Reading.{whole, refused}
 use Rattle.message.specs.Names.{Named, nameAt}
 use Rattle.message.specs.Text.{valueAt}
