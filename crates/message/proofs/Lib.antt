@@ -14,7 +14,7 @@
 -- through all that is before it, and `TagInverse` and `PartInverse` lead back from what specs/Readable says by readers to its state. `Spelling` says the
 -- openings of 12 in both ways, `Causes` that what stops the machine is due, and `Blocked` that it does not go past what is due.
 -- The promises. `Nine` proves specs/Nine, `Raising` specs/Raised, `Earliest` specs/Places and specs/Earliest, `Seven`, `Delimited` and `NamesStand`
--- specs/Seven, and `Meanings`, `References` and `BeyondAscii` specs/Meanings.
+-- specs/Seven, `Meanings`, `References` and `BeyondAscii` specs/Meanings, and `Alphabet` specs/Alphabet.
 pub mod Laws
 pub mod Digits
 pub mod Bytes
@@ -76,3 +76,4 @@ pub mod NamesStand
 pub mod Meanings
 pub mod References
 pub mod BeyondAscii
+pub mod Alphabet

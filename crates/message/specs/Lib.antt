@@ -20,4 +20,5 @@ pub mod Places
 pub mod Earliest
 pub mod Seven
 pub mod Meanings
+pub mod Alphabet
 mod Examples
