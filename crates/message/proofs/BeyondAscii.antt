@@ -18,12 +18,12 @@ abbrev Beyond : Character → Type 0
 Beyond c = 128 ≤ c .code
 
 -- what the first two bytes give of three, and of four: after the least first byte the second is not the least
-three-lead : (lead second : ℕ) → 224 ≤ lead → cond (eqb lead 224) 160 128 ≤ second → 32 ≤ joined (lead - 224) second
+pub three-lead : (lead second : ℕ) → 224 ≤ lead → cond (eqb lead 224) 160 128 ≤ second → 32 ≤ joined (lead - 224) second
 three-lead lead second low =
     cond-cases (λ (least : ℕ). least ≤ second → 32 ≤ joined (lead - 224) second) (eqb lead 224)
     (λ t h. omega arith) (λ t h. let above = eqb-false lead 224 t in omega arith)
 
-four-lead : (lead second : ℕ) → 240 ≤ lead → cond (eqb lead 240) 144 128 ≤ second → 16 ≤ joined (lead - 240) second
+pub four-lead : (lead second : ℕ) → 240 ≤ lead → cond (eqb lead 240) 144 128 ≤ second → 16 ≤ joined (lead - 240) second
 four-lead lead second low =
     cond-cases (λ (least : ℕ). least ≤ second → 16 ≤ joined (lead - 240) second) (eqb lead 240)
     (λ t h. omega arith) (λ t h. let above = eqb-false lead 240 t in omega arith)

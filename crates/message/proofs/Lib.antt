@@ -14,7 +14,8 @@
 -- through all that is before it, and `TagInverse` and `PartInverse` lead back from what specs/Readable says by readers to its state. `Spelling` says the
 -- openings of 12 in both ways, `Causes` that what stops the machine is due, and `Blocked` that it does not go past what is due.
 -- The promises. `Nine` proves specs/Nine, `Raising` specs/Raised, `Earliest` specs/Places and specs/Earliest, `Seven`, `Delimited` and `NamesStand`
--- specs/Seven, `Meanings`, `References` and `BeyondAscii` specs/Meanings, and `Alphabet` specs/Alphabet.
+-- specs/Seven, `Meanings`, `References` and `BeyondAscii` specs/Meanings, and `Alphabet`, `Utf8Ranges` and `Utf8`
+-- specs/Alphabet.
 pub mod Laws
 pub mod Digits
 pub mod Bytes
@@ -77,3 +78,5 @@ pub mod Meanings
 pub mod References
 pub mod BeyondAscii
 pub mod Alphabet
+pub mod Utf8Ranges
+pub mod Utf8

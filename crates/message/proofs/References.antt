@@ -63,7 +63,7 @@ no-x (capital d ten below) = absurd (omega arith)
 no-x (small d ten below) = absurd (omega arith)
 
 -- a legal character is none past the last
-legal-small : (n : ℕ) → legal n ≡ true → n ≤ 1114111
+pub legal-small : (n : ℕ) → legal n ≡ true → n ≤ 1114111
 legal-small n h =
     elim (decLt 1114111 n) [
       | no k ↦ omega arith

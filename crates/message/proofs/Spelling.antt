@@ -29,7 +29,7 @@ use Rattle.message.proofs.Automaton.{Ground}
 use Rattle.message.proofs.Dues.{isFirst, opening}
 
 module _ (s : List ℕ) where
-  word-spelled : (w : List ℕ) (p e : ℕ) → wordAt w s p ≡ whole e → p ≤ length s → Spelled w s p
+  pub word-spelled : (w : List ℕ) (p e : ℕ) → wordAt w s p ≡ whole e → p ≤ length s → Spelled w s p
   word-spelled w p e q within =
       ap (part s p) (sym (word-ends s w p e q)) ∙ word-part s w p e q (word-within s w p e q within) .1
 
