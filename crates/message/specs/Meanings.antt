@@ -1,4 +1,5 @@
--- Promise 6, meanings: which texts name a number, a status and a type, and what comments and elements in them do. (proofs/Meanings) Assumes nothing.
+-- Promise 6, meanings: which texts name a number, a status and a type, and what comments and elements in them do.
+-- (proofs/Meanings, proofs/References, proofs/BeyondAscii) Assumes nothing.
 use Prim.Native.Nat.{ℕ, _+_, _*_, _<_, _≤_}
 use mathlib.Core.Path.{_≡_}
 use mathlib.Core.Bool.{true, false}

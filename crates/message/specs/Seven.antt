@@ -1,4 +1,5 @@
--- Promise 5, the seven: 13 exactly for what is none of them, the values that each needs, and where they stand. (proofs/Seven) Assumes nothing.
+-- Promise 5, the seven: 13 exactly for what is none of them, the values that each needs, and where they stand.
+-- (proofs/Seven, proofs/Delimited, proofs/NamesStand) Assumes nothing.
 use Prim.Native.Nat.{ℕ, _+_, _-_, _≤_, _<_}
 use mathlib.Core.Path.{_≡_}
 use mathlib.Core.Bool.{true, false}
