@@ -26,12 +26,7 @@ use Rattle.message.proofs.Within.{WasRead, root-read}
 use Rattle.message.proofs.Seven.{Decided, only-child, value, value-there, there-value, decided, own, childs}
 use Rattle.message.proofs.Seven.Decided.{read, thirteen}
 
--- a message that was read whole is read with raised limits as well, and gives the same elements
-pub document-raised : (s : List ℕ) (l l′ : Limits) → AtMost l l′ → (root : Element) → documentAt classOf s l 0 ≡ whole root
-    → documentAt classOf s l′ 0 ≡ whole root
-document-raised s l l′ up root q = kept-whole l l′ _ _ root (kept-document l l′ classOf s up 0) q
-
--- and what is made of them is the same: either looks through the attributes of a start tag that was read whole, and finds what it carries
+-- What is made of the elements is the same: either looks through the attributes of a start tag that was read whole, and finds what it carries
 module _ (s : List ℕ) (l l′ : Limits) (up : AtMost l l′) where
   found-again : (w : List ℕ) (tag : Tag) → Attributed classOf s l (tag .name)
       → attributeOf classOf l s w tag ≡ attributeOf classOf l′ s w tag
