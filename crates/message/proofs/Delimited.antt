@@ -104,7 +104,7 @@ module _ (s : List ℕ) where
     rest-between child grows at st started =
         let starts = start-starts classOf s l at st started in
         let ends = tag-ends (st .begin) (st .name) (starts .attributed .0) st (starts .ends) in
-        rest-cases classOf s l child st (λ e. Between s (e .tag)) (λ t. empty refl refl (ends .closed) (ends .slash t)) (λ c q.
+        rest-cases classOf s l child st (λ e. Between s (e .tag)) (λ t. empty refl refl (ends .closed) (ends .slash t)) (λ t c q.
         let x = content-ends child grows st (length s) (st .from) c q in
         tags (ends .some) (x .order) (has-lt (is 47) s (c .to + 1) (x .slash)) (ends .closed) (byte-is 60 s (c .to) (x .mark))
         (byte-is 47 s (c .to + 1) (x .slash))

@@ -7,13 +7,14 @@ use native.Mathlib.Omega.{arith}
 use native.Mathlib.Decide.{decLt}
 use lib.ListN.{length, length-append}
 use lib.Dec.{ltb, leb, eqb}
-use borrow.Author.Tests.{eq-eqb, ne-eqb, eqb-true, eqb-false, ltb-true, ltb-false, leb-true, le-leb}
+use borrow.Author.Tests.{eq-eqb, eqb-true, eqb-false, ltb-true, ltb-false, leb-true, le-leb}
 use Rattle.message.specs.Class.{classOf, isSpace}
 use Rattle.message.specs.Reading.{is}
 use Rattle.message.specs.Characters.{legal, isDigit, digitOf}
 use Rattle.message.specs.Elements.{isKnown}
 use Rattle.message.specs.Readable.{endTags}
-use Rattle.message.proofs.Laws.{cond-cases, between-yes, between-above}
+use Rattle.message.proofs.Legal.{legal-low, legal-over}
+use Rattle.message.proofs.Laws.{cond-cases}
 use Rattle.message.proofs.Parts.{other-length}
 use Rattle.message.proofs.Automaton.{Test, exact, exactly, secondThree, thirdThree, Ground, first, before, behind, inside, State, ground, opened, expect, blanks, declared, versionQuote, encodingQuote, versioned, encodingName, note, second, ampersand, ampersandA, hash, firstDigit, number, name, colon, inTag, slash, attribute, attributeColon, quote, value, close, goes, expecting, after, closing, declaredEnd, base, step, steps}
 use Rattle.message.proofs.Ways.{steps-on, numbered-small}
@@ -130,25 +131,10 @@ ends-attribute (suc m) t a n seen o h = ends-attribute m t (a ++ (97 ∷ [])) n 
 
 -- ---- a number
 
-legal-low : (n : ℕ) → 32 ≤ n → n ≤ 55295 → legal n ≡ true
-legal-low n low high =
-    rw (ne-eqb n 9 (λ e. omega arith), ne-eqb n 10 (λ e. omega arith), ne-eqb n 13 (λ e. omega arith), between-yes 32 55295 n low high)
-
-legal-high : (n : ℕ) → 65536 ≤ n → n ≤ 1114111 → legal n ≡ true
-legal-high n low high =
-    rw (
-      ne-eqb n 9 (λ e. omega arith),
-      ne-eqb n 10 (λ e. omega arith),
-      ne-eqb n 13 (λ e. omega arith),
-      between-above 32 55295 n (omega arith),
-      between-above 57344 65533 n (omega arith),
-      between-yes 65536 1114111 n low high,
-    )
-
 not-legal : (n : ℕ) → 32 ≤ n → n ≤ 1114111 → legal n ≡ false → (55296 ≤ n) × (n ≤ 65535)
 not-legal n low high e = (
   elim (decLt n 55296) [ yes h ↦ absurd (clash (legal-low n low (omega arith))) | no h ↦ omega arith ],
-  elim (decLt 65535 n) [ yes h ↦ absurd (clash (legal-high n (omega arith) high)) | no h ↦ omega arith ],
+  elim (decLt 65535 n) [ yes h ↦ absurd (clash (legal-over n (omega arith) high)) | no h ↦ omega arith ],
 )
   where
     clash : legal n ≡ true → ⊥
@@ -189,10 +175,10 @@ module _ (k : State) (u : List ℕ) (h : Ends k u) where
   ends-one : (hex : Bool) (n : ℕ) (small : leb n 1114111 ≡ true) → 55296 ≤ n → n ≤ 65535 → Ends (number hex n small k) (48 ∷ 59 ∷ u)
   ends-one true n small low high =
       ends-digit k (59 ∷ u) true n 48 small refl (omega arith)
-      (λ e. ends-legal k u true (n * 16 + 0) e (legal-high (n * 16 + 0) (omega arith) (omega arith)) h)
+      (λ e. ends-legal k u true (n * 16 + 0) e (legal-over (n * 16 + 0) (omega arith) (omega arith)) h)
   ends-one false n small low high =
       ends-digit k (59 ∷ u) false n 48 small refl (omega arith)
-      (λ e. ends-legal k u false (n * 10 + 0) e (legal-high (n * 10 + 0) (omega arith) (omega arith)) h)
+      (λ e. ends-legal k u false (n * 10 + 0) e (legal-over (n * 10 + 0) (omega arith) (omega arith)) h)
 
   ends-number : (hex : Bool) (n : ℕ) (small : leb n 1114111 ≡ true) → Ends (number hex n small k) (finishNumber n u)
   ends-number hex n small =

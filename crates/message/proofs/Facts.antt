@@ -142,7 +142,7 @@ module _ (class : ℕ → ℕ) (s : List ℕ) (l : Limits) where
 
     -- it has content, or none at all
     pub rest-cases : (P : Element → Type 0) → (st .empty ≡ true → P emptied)
-        → ((c : Content) → contentAt class s l (length s) child st (st .from) ≡ whole c → P (filled c))
+        → (st .empty ≡ false → (c : Content) → contentAt class s l (length s) child st (st .from) ≡ whole c → P (filled c))
         → (e : Element) → restAt class s l child st ≡ whole e → P e
     unfolding restAt
     rest-cases P f g e q = go (st .empty) refl q
@@ -152,7 +152,7 @@ module _ (class : ℕ → ℕ) (s : List ℕ) (l : Limits) where
         go true t h = subst P (whole-same h) (f t)
         go false t h =
             let x = then-whole (λ c. whole (filled c)) (contentAt class s l (length s) child st (st .from)) e h in
-            subst P (whole-same (x .2)) (g (x .0) (x .1))
+            subst P (whole-same (x .2)) (g t (x .0) (x .1))
 
   -- ---- an element
 
@@ -177,7 +177,7 @@ module _ (class : ℕ → ℕ) (s : List ℕ) (l : Limits) where
   rest-stands child begins at st so =
       rest-cases child st (Stands child at)
       (λ t. record { begins = so .begins; named = so .named; attributed = so .attributed; inner = tt })
-      (λ c q. record { begins = so .begins; named = so .named; attributed = so .attributed; inner = all c q })
+      (λ t c q. record { begins = so .begins; named = so .named; attributed = so .attributed; inner = all c q })
     where
       again : (from stop : ℕ) (e : Element) (c : Content) → freeAt class s (length s) from ≡ whole stop → child stop ≡ whole e
           → Reads child (c .inside)

@@ -1,4 +1,4 @@
--- Base laws. `Laws` and `Digits` are about single readings, `Bytes` about single bytes, `Runs` about bytes that are known and runs of them, `Parts`
+-- Base laws. `Laws` and `Digits` are about single readings, `Bytes` about single bytes, `Legal` about characters, `Runs` about bytes that are known and runs of them, `Parts`
 -- about parts of the message, and `ClassTable` computes the table of classes. `Progress`, `MarkupLoop` and `Trees` show that what is read whole ends
 -- past where it began, `Loops` what a loop over a reader keeps, and `Facts` that each element is what is read again at its place. `Words` is about
 -- words that were read, `Shapes` about names. `ByForm` and `Numbers` tell the numbers of refusal, of the readers that take no limits and of those that
@@ -13,12 +13,13 @@
 -- reader up to whole messages. So `Accepted` tells readable messages, and bytes that can be continued, by the machine. `Alive` shows that it went
 -- through all that is before it, and `TagInverse` and `PartInverse` lead back from what specs/Readable says by readers to its state. `Spelling` says the
 -- openings of 12 in both ways, `Causes` that what stops the machine is due, and `Blocked` that it does not go past what is due.
--- The promises. `Nine` proves specs/Nine, `Raising` specs/Raised, `Earliest` specs/Places and specs/Earliest, `Seven`, `Delimited` and `NamesStand`
+-- The promises. `Nine` proves specs/Nine, `Raising` specs/Raised, `Earliest` specs/Places and specs/Earliest, `Seven`, `Delimited`, `Children` and `NamesStand`
 -- specs/Seven, `Meanings`, `References` and `BeyondAscii` specs/Meanings, and `Alphabet`, `Utf8Ranges` and `Utf8`
 -- specs/Alphabet.
 pub mod Laws
 pub mod Digits
 pub mod Bytes
+pub mod Legal
 pub mod Runs
 pub mod Parts
 pub mod ClassTable
@@ -73,6 +74,7 @@ pub mod Raising
 pub mod Earliest
 pub mod Seven
 pub mod Delimited
+pub mod Children
 pub mod NamesStand
 pub mod Meanings
 pub mod References

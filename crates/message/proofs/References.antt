@@ -1,10 +1,9 @@
 -- What references are read as: the five names, and numbers in decimal and in hexadecimal. Assumes nothing.
 use Prim.Native.Nat.{ℕ, suc, _+_, _-_, _*_, _<_, _≤_}
 use mathlib.Core.Path.{_≡_, refl, sym, _∙_, ap}
-use mathlib.Core.Bool.{true, false, cond, true≢false}
+use mathlib.Core.Bool.{true, false, cond}
 use mathlib.Core.List.{List, [], _∷_, _++_}
 use native.Mathlib.Omega.{arith}
-use native.Mathlib.Decide.{decLt}
 use lib.ListN.{length, length-append}
 use lib.Dec.{ltb}
 use borrow.Author.Tests.{lt-ltb, le-leb, lt-leb, ne-eqb}
@@ -17,10 +16,11 @@ use Rattle.message.specs.Readable.{Spelled}
 use Rattle.message.specs.Meanings.{Digit, Digits, ReferencesMean}
 use Rattle.message.specs.Meanings.Digit.{figure, capital, small}
 use Rattle.message.specs.Meanings.Digits.{first, further}
-use Rattle.message.proofs.Laws.{and-true, has-lt, one-yes, between-above}
+use Rattle.message.proofs.Laws.{and-true, has-lt, one-yes}
 use Rattle.message.proofs.Digits.{hex-some}
 use Rattle.message.proofs.Runs.{has-known, byte-is}
 use Rattle.message.proofs.Words.{word-first}
+use Rattle.message.proofs.Legal.{legal-small}
 use Rattle.message.proofs.Spelling.{spelled-word}
 
 -- ---- digits
@@ -61,19 +61,6 @@ no-x : {x d : ℕ} → Digit 10 x d → is 120 x ≡ false
 no-x (figure d ten below) = ne-eqb (48 + d) 120 (λ same. omega arith)
 no-x (capital d ten below) = absurd (omega arith)
 no-x (small d ten below) = absurd (omega arith)
-
--- a legal character is none past the last
-pub legal-small : (n : ℕ) → legal n ≡ true → n ≤ 1114111
-legal-small n h =
-    elim (decLt 1114111 n) [
-      | no k ↦ omega arith
-      | yes k ↦ absurd (true≢false (sym h ∙ past k))
-    ]
-  where
-    past : 1114111 < n → legal n ≡ false
-    past k =
-        rw (ne-eqb n 9 (λ same. omega arith), ne-eqb n 10 (λ same. omega arith), ne-eqb n 13 (λ same. omega arith)) (
-        rw (between-above 32 55295 n (omega arith), between-above 57344 65533 n (omega arith), between-above 65536 1114111 n k))
 
 abbrev character : ℕ → ℕ → Reading Character
 character e c = whole (record { end = e; code = c })

@@ -18,10 +18,10 @@ use Rattle.message.proofs.Laws.{cond-cases, has-in, has-lt, one-yes, be
 use Rattle.message.proofs.Runs.{byte-is}
 use Rattle.message.proofs.Words.{word-first}
 use Rattle.message.proofs.Spelling.{word-spelled, spelled-word}
-use Rattle.message.proofs.References.{legal-small}
+use Rattle.message.proofs.Legal.{legal-low, legal-over, legal-small}
 use Rattle.message.proofs.Progress.{Every, every-on}
 use Rattle.message.proofs.BeyondAscii.{three-lead, four-lead}
-use Rattle.message.proofs.Utf8Ranges.{legal-low, legal-over, at-most, at-least, three-legal, four-most, three-second, three-third, four-second}
+use Rattle.message.proofs.Utf8Ranges.{at-most, at-least, three-legal, four-most, three-second, three-third, four-second}
 
 same-character : {e e′ n n′ : ℕ} → e ≡ e′ → n ≡ n′
     → _≡_ {A = Reading Character} (whole (record { end = e; code = n })) (whole (record { end = e′; code = n′ }))

@@ -1,49 +1,16 @@
--- Legal characters by the ranges that they lie in, and the ranges of second and third bytes in UTF-8 that leave just these. Assumes nothing.
+-- The ranges of second and third bytes in UTF-8 leave just the legal characters. Assumes nothing.
 use Prim.Native.Nat.{ℕ, _-_, _<_, _≤_}
-use mathlib.Core.Path.{_≡_, sym, _∙_}
-use mathlib.Core.Logic.{_⊎_, inl, inr, ⊎-elim}
-use mathlib.Core.Bool.{Bool, true, cond, _&&_, _||_}
+use mathlib.Core.Path.{_≡_, sym}
+use mathlib.Core.Logic.{_⊎_, ⊎-elim}
+use mathlib.Core.Bool.{Bool, true, cond, _&&_}
 use native.Mathlib.Omega.{arith}
 use native.Mathlib.Decide.{decLt}
 use lib.Dec.{eqb}
-use borrow.Author.Tests.{eqb-true, eq-eqb, ne-eqb}
-use Rattle.laws.proofs.Tests.{either, or-last}
-use Rattle.message.specs.Class.{between}
+use borrow.Author.Tests.{eqb-true, eq-eqb}
+use Rattle.laws.proofs.Tests.{either}
 use Rattle.message.specs.Characters.{legal, secondOfThree, thirdOfThree, secondOfFour, joined}
-use Rattle.message.proofs.Laws.{cond-true, cond-cases, or-true, or-false, both-first, both-second, between-both, between-yes}
-
--- ---- legal characters, by the ranges that they lie in
-
-module _ (n : ℕ) where
-  abbrev low : Bool
-  low = between 32 55295 n
-
-  abbrev high : Bool
-  high = between 57344 65533 n
-
-  abbrev over : Bool
-  over = between 65536 1114111 n
-
-  legal-ranges : (low || (high || over)) ≡ true → legal n ≡ true
-  legal-ranges h = or-last (eqb n 9) (or-last (eqb n 10) (or-last (eqb n 13) h))
-
-  pub legal-low : 32 ≤ n → n ≤ 55295 → legal n ≡ true
-  legal-low l h = legal-ranges (sym (or-true (high || over) (between-yes 32 55295 n l h)))
-
-  legal-high : 57344 ≤ n → n ≤ 65533 → legal n ≡ true
-  legal-high l h = legal-ranges (or-last low (sym (or-true over (between-yes 57344 65533 n l h))))
-
-  pub legal-over : 65536 ≤ n → n ≤ 1114111 → legal n ≡ true
-  legal-over l h = legal-ranges (or-last low (or-last high (between-yes 65536 1114111 n l h)))
-
-  -- a legal one of three bytes lies in one of two ranges
-  legal-three : 2048 ≤ n → n < 65536 → legal n ≡ true → (n ≤ 55295) ⊎ ((57344 ≤ n) × (n ≤ 65533))
-  legal-three least most h =
-      let ranges : (low || (high || over)) ≡ true =
-      or-false _ (ne-eqb n 13 (λ e. omega arith)) ∙ or-false _ (ne-eqb n 10 (λ e. omega arith)) ∙ or-false _ (ne-eqb n 9 (λ e. omega arith)) ∙ h in
-      ⊎-elim (λ l. inl (between-both 32 55295 n l .1)) (λ r.
-      ⊎-elim (λ k. inr (between-both 57344 65533 n k)) (λ o. absurd (omega (arith, between-both 65536 1114111 n o .0)))
-      (either high over r)) (either low (high || over) ranges)
+use Rattle.message.proofs.Legal.{legal-low, legal-high, legal-three}
+use Rattle.message.proofs.Laws.{cond-true, cond-cases, both-first, both-second, between-yes}
 
 -- ---- the ranges of the second and third bytes
 

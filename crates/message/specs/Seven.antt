@@ -1,15 +1,15 @@
 -- Promise 5, the seven: 13 exactly for what is none of them, the values that each needs, and where they stand.
--- (proofs/Seven, proofs/Delimited, proofs/NamesStand) Assumes nothing.
+-- (proofs/Seven, proofs/Delimited, proofs/Children, proofs/NamesStand) Assumes nothing.
 use Prim.Native.Nat.{ℕ, _+_, _-_, _≤_, _<_}
 use mathlib.Core.Path.{_≡_}
 use mathlib.Core.Bool.{true, false}
 use mathlib.Core.List.{List}
 use lib.ListN.{length}
 use Rattle.message.specs.Class.{classOf}
-use Rattle.message.specs.Reading.{isQuote, byteAt, blanks, equalsAt}
+use Rattle.message.specs.Reading.{is, isQuote, byteAt, has, blanks, equalsAt}
 use Rattle.message.specs.Reading.Reading.{whole, refused}
 use Rattle.message.specs.Limits.{Limits}
-use Rattle.message.specs.Elements.{part, Tag, Elements, Element, Quoted, documentAt}
+use Rattle.message.specs.Elements.{part, Tag, Elements, Element, Start, Quoted, freeAt, startAt, endTagAt, documentAt}
 use Rattle.message.specs.Elements.Elements.{none, more}
 use Rattle.message.specs.Messages.{numberValue, statusValue, typeAdvice, messageOf}
 use Rattle.message.specs.Messages.Found.{found}
@@ -186,6 +186,29 @@ abbrev pub TypeDelimited : Type 0
 TypeDelimited =
     (s : List ℕ) (l : Limits) (root child type : Element) → documentAt classOf s l 0 ≡ whole root
     → OnlyChild s words.advisory root child → First s words.advisoryType (child .inside) type → Between s (type .tag)
+
+-- ---- the elements of a message
+
+-- From one place up to an end tag at another stand text and comments, and these elements in their order: each begins where the text before it stops, and what
+-- follows it begins behind it.
+pub data Holds (s : List ℕ) : ℕ → Elements → ℕ → Type 0 where
+  last : {at to : ℕ} → freeAt classOf s (length s) at ≡ whole to → has (is 47) s (to + 1) ≡ true → Holds s at none to
+  next : {at stop to : ℕ} {tag : Tag} {inner others : Elements} → freeAt classOf s (length s) at ≡ whole stop → tag .begin ≡ stop + 1
+      → Holds s (tag .end) others to → Holds s at (more tag inner others) to
+
+-- an empty-element tag, or a start tag, such content, and the end tag
+pub data Inside (s : List ℕ) (l : Limits) (tag : Tag) : Elements → Type 0 where
+  nothing : (start : Start) → startAt classOf s l (tag .begin - 1) ≡ whole start → start .empty ≡ true → start .from ≡ tag .end → Inside s l tag none
+  content : {inner : Elements} (start : Start) → startAt classOf s l (tag .begin - 1) ≡ whole start → start .empty ≡ false → start .from ≡ tag .from
+      → Holds s (tag .from) inner (tag .to) → endTagAt classOf s l (tag .begin) (tag .name) (tag .to + 2) ≡ whole (tag .end) → Inside s l tag inner
+
+abbrev pub EachInside : List ℕ → Limits → Elements → Type 0
+EachInside s l none = Unit {0}
+EachInside s l (more tag inner others) = Inside s l tag inner × EachInside s l inner × EachInside s l others
+
+-- None is left out, and none is listed that does not stand there.
+abbrev pub ElementsStand : Type 0
+ElementsStand = (s : List ℕ) (l : Limits) (root : Element) → documentAt classOf s l 0 ≡ whole root → EachInside s l (more (root .tag) (root .inside) none)
 
 -- ---- names
 
