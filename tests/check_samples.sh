@@ -1,5 +1,5 @@
 #!/bin/sh
-# Makes the samples again and compares them, and holds ./box cut to the outputs that stand beside them.
+# Makes the samples again and compares them, and holds ./box cut and ./box replay to the outputs that stand beside them.
 set -u
 top=$(CDPATH='' cd -- "$(dirname -- "$0")/.." && pwd)
 scratch=$top/target/check-samples
@@ -41,8 +41,14 @@ for byte in open(sys.argv[1], "rb").read():
 os.close(into)
 sys.exit(program.wait())'
 
-prints_byte_by_byte() { # STREAM EXPECTED
-    python3 -c "$byte_by_byte" "$1" "$top/box" cut '##' >"$scratch/printed" && cmp "$2" "$scratch/printed"
+prints_byte_by_byte() { # INPUT EXPECTED WORD ..
+    input=$1 expected=$2
+    shift 2
+    python3 -c "$byte_by_byte" "$input" "$top/box" "$@" >"$scratch/printed" && cmp "$expected" "$scratch/printed"
+}
+
+model_prints() { # EXPECTED: the independent program prints it for the script on standard input
+    python3 "$top/tests/independent/replay_script.py" >"$scratch/printed" && cmp "$1" "$scratch/printed"
 }
 
 prints_elsewhere() { # EXPECTED: the current directory must not matter
@@ -66,11 +72,14 @@ for name in short last-spring; do
     check "$name.cut made again" cmp "$sample.cut" "$scratch/$name.cut"
     check "$name cut from a file" prints "$sample.cut" 0 cut '##' <"$sample.stream"
 done
-check 'short cut byte by byte' prints_byte_by_byte "$top/samples/short.stream" "$top/samples/short.cut"
+check 'short cut byte by byte' prints_byte_by_byte "$top/samples/short.stream" "$top/samples/short.cut" cut '##'
 check 'short cut from another directory' prints_elsewhere "$top/samples/short.cut" <"$top/samples/short.stream"
 check 'an empty stream' prints "$scratch/nothing" 0 cut '##' </dev/null
 check 'an empty boundary' prints "$scratch/stopped" 1 cut '' <"$top/samples/short.stream"
 check 'a boundary of 17 bytes' prints "$scratch/stopped" 1 cut 12345678901234567 </dev/null
+check 'replay.out by the independent program' model_prints "$top/samples/replay.out" <"$top/samples/replay.txt"
+check 'replay from a file' prints "$top/samples/replay.out" 0 replay <"$top/samples/replay.txt"
+check 'replay byte by byte' prints_byte_by_byte "$top/samples/replay.txt" "$top/samples/replay.out" replay
 check 'an unknown command' lists_commands mend
 check 'no command' lists_commands
 check 'no boundary' lists_commands cut

@@ -102,9 +102,3 @@ def long_input(rng, size):
             pieces.append(random_stream(rng, boundary, 20))
         length += len(pieces[-1])
     return b"".join(pieces)
-
-
-def cut_at_random(rng, data, many):
-    """The data in so many pieces, for a program that gets its input bit by bit."""
-    ends = sorted(rng.randint(0, len(data)) for _ in range(many)) + [len(data)]
-    return [piece for piece in (data[begin:end] for begin, end in zip([0] + ends, ends)) if piece]

@@ -1,6 +1,6 @@
 -- `Matcher` and `Borders` carry the code's matching and `Call` the cases of one call; `GoesOn`, `Stored` and `Handed` say what the held match, the store
 -- and an item mean for the bytes gathered. The theorems of specs/Promises and specs/Refusals stand in `Refusals`, `Cuts`, `Link`, `Places`, `OwnNumbers`,
--- `OneCall`, `Stream` and `OneAnswer`.
+-- `OneCall`, `Stream` and `OneAnswer`; `Bounds` has two laws for callers.
 mod Matcher
 mod Borders
 mod Call
@@ -15,3 +15,4 @@ pub mod OwnNumbers
 pub mod OneCall
 pub mod Stream
 pub mod OneAnswer
+pub mod Bounds

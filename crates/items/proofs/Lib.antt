@@ -1,7 +1,6 @@
--- `FirstEnd` has the first LF of the input, `Fields` numbers in decimal and fields one behind the other, `Calls` one call of the framing, `Whole` the
--- theorems on a whole input, and `Sample` the sample of document 01.
+-- `FirstEnd` has the first LF of the input, `Calls` one call of the framing, `Whole` the theorems on a whole input, and `Sample` the sample
+-- of document 01.
 mod FirstEnd
-mod Fields
 mod Calls
 pub mod Whole
 pub mod Sample

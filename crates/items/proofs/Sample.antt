@@ -15,7 +15,7 @@ use Rattle.message.specs.Text.{specialAt, bracketAt, beyondPlainInAt, beyondPla
 use Rattle.message.specs.Elements.{startEndAt, endAt, quotedAt, freeAt, tooDeepAt, declaredOf, freshAt, attributesAt, withNameAt, startAt, endPartAt, endNameAt, endTagAt, contentAt, restAt, elementAt, rootAt, documentAt}
 use Rattle.message.specs.Messages.{kindOf, attributeCalled, messageAt}
 use Rattle.message.specs.Values.{letterAt, attributeLetterAt, textLetterAt, attributeMeaning, contentMeaning, decimalFrom, decimalOf}
-use Rattle.items.specs.Texts.{places, decimal}
+use Rattle.texts.specs.Fields.{places, decimal}
 use Rattle.items.specs.Lines.{endLine, itemLine, messageLine}
 use Rattle.items.specs.Listing.{boundaryEnd, partsOf, waitingOf, cutLines, streamLines, listing}
 

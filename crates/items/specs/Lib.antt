@@ -1,4 +1,4 @@
--- `Texts` has the fields of a line, `Lines` the lines, `Listing` the listing of a whole input, and `Turns` what the program does at each turn.
+-- `Texts` has the words of a line, `Lines` the lines, `Listing` the listing of a whole input, and `Turns` what the program does at each turn.
 pub mod Texts
 pub mod Lines
 pub mod Listing

@@ -10,7 +10,8 @@ use Rattle.message.specs.Messages.{messageOf}
 use Rattle.message.specs.declared.Message.{Message}
 use Rattle.framing.specs.declared.Item.{Item}
 use Rattle.framing.specs.declared.Item.the-variants.{NotYet, Empty, Message as Whole, TooLong}
-use Rattle.items.specs.Texts.{space, lineEnd, field, decimal, headerWords, stopWord, endWord, dash, kindName}
+use Rattle.texts.specs.Fields.{space, lineEnd, field, decimal}
+use Rattle.items.specs.Texts.{headerWords, stopWord, endWord, dash, kindName}
 
 abbrev pub headerLine : List ℕ
 headerLine = field headerWords lineEnd

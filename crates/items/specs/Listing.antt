@@ -7,7 +7,7 @@ use lib.Dec.{ltb, leb, eqb}
 use Rattle.laws.specs.Search.{least}
 use Rattle.framing.specs.Cutting.{linkLimit, mostBoundary, mostCount, itemEnd}
 use Rattle.framing.specs.Stream.{StreamItem, empty, message, tooLong, itemsOfParts}
-use Rattle.items.specs.Texts.{lineEnd}
+use Rattle.texts.specs.Fields.{lineEnd}
 use Rattle.items.specs.Lines.{headerLine, stopLine, endLine, messageLine, tooLongLine}
 
 -- where the boundary ends: the place of the first LF among the first 17 bytes, and 17 where there is none

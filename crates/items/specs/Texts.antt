@@ -1,32 +1,9 @@
--- Document 01, "The listing": the words that the lines are made of, and numbers in decimal. Assumes nothing.
-use Prim.Native.Nat.{ℕ, suc, _^_}
-use mathlib.Core.List.{List, [], _∷_, _++_}
-use lib.Dec.{ltb}
-use Rattle.laws.specs.Search.{least}
-use Rattle.io.specs.Digits.{digits}
+-- Document 01, "The listing": the words that the lines are made of. Assumes nothing.
+use Prim.Native.Nat.{ℕ}
+use mathlib.Core.List.{List, [], _∷_}
 use Rattle.message.specs.declared.Kind.{Kind}
 use Rattle.message.specs.declared.Kind.the-variants as kinds
 use Rattle.message.specs.Words as words
-
--- what stands behind a field: a space, or the LF of its line
-abbrev pub space : ℕ
-space = 32
-
-abbrev pub lineEnd : ℕ
-lineEnd = 10
-
--- a field and what stands behind it
-abbrev pub field : List ℕ → ℕ → List ℕ
-field text behind = text ++ (behind ∷ [])
-
--- the fewest digits, and no fewer than one, that hold n
-unfoldable pub places : ℕ → ℕ
-places n = suc (least (λ k. ltb n (10 ^ suc k)) n)
-
--- a number in decimal, without leading zeros
-unfoldable pub decimal : ℕ → List ℕ
-unfolding places
-decimal n = digits 10 (places n) n
 
 -- `item bytes kind refusal place`
 abbrev pub headerWords : List ℕ

@@ -1,5 +1,5 @@
 // The lines of the listing, each written to the start of a lent array. A line's length is answered.
-use crate::texts;
+use crate::fields;
 use message::Answer;
 use message::Kind;
 ghost use mathlib.Core.Path.{_≡_};
@@ -7,7 +7,8 @@ ghost use mathlib.Core.List.{_++_};
 ghost use Prim.Native.Nat.{_+_, _≤_};
 ghost use lib.ListN.{length, take};
 ghost use Rattle.io.specs.Counts.{Counts};
-ghost use Rattle.items.specs.Texts.{space, lineEnd, field, decimal, dash, kindName};
+ghost use Rattle.texts.specs.Fields.{space, lineEnd, field, decimal};
+ghost use Rattle.items.specs.Texts.{dash, kindName};
 ghost use Rattle.items.specs.Lines.{headerLine, stopLine, endLine, itemLine, messageLine, tooLongLine};
 
 const SPACE: u8 = b' ';
@@ -19,7 +20,7 @@ pub(crate) fn header(out: &mut [u8]) -> usize
     ensures { λ r. ⌜ Counts r (now (out .exit)) ⌝ }
     ensures written { λ r. ⌜ take r (now (out .exit)) ≡ headerLine ⌝ }
 {
-    texts::put(out, 0, b"item bytes kind refusal place", LINE_END)
+    fields::put(out, 0, b"item bytes kind refusal place", LINE_END)
 }
 
 pub(crate) fn stop(out: &mut [u8]) -> usize
@@ -27,8 +28,8 @@ pub(crate) fn stop(out: &mut [u8]) -> usize
     ensures { λ r. ⌜ Counts r (now (out .exit)) ⌝ }
     ensures written { λ r. ⌜ take r (now (out .exit)) ≡ stopLine ⌝ }
 {
-    let at = texts::put(out, 0, b"stop", SPACE);
-    texts::put_number(out, at, 1, LINE_END)
+    let at = fields::put(out, 0, b"stop", SPACE);
+    fields::put_number(out, at, 1, LINE_END)
 }
 
 pub(crate) fn end(out: &mut [u8], waiting: u32) -> usize
@@ -36,8 +37,8 @@ pub(crate) fn end(out: &mut [u8], waiting: u32) -> usize
     ensures { λ r. ⌜ Counts r (now (out .exit)) ⌝ }
     ensures written { λ r. ⌜ take r (now (out .exit)) ≡ endLine waiting ⌝ }
 {
-    let at = texts::put(out, 0, b"end", SPACE);
-    texts::put_number(out, at, waiting as u64, LINE_END)
+    let at = fields::put(out, 0, b"end", SPACE);
+    fields::put_number(out, at, waiting as u64, LINE_END)
 }
 
 // The refusal and the place, behind the kind.
@@ -46,8 +47,8 @@ fn put_refusal(out: &mut [u8], at: usize, refusal: u64, place: u64) -> usize
     ensures { λ r. ⌜ Counts r (now (out .exit)) ⌝ }
     ensures written { λ r. ⌜ take r (now (out .exit)) ≡ take at (now (out .entry)) ++ (field (decimal refusal) space ++ field (decimal place) lineEnd) ⌝ }
 {
-    let next = texts::put_number(out, at, refusal, SPACE);
-    texts::put_number(out, next, place, LINE_END)
+    let next = fields::put_number(out, at, refusal, SPACE);
+    fields::put_number(out, next, place, LINE_END)
 }
 
 // A message that is read.
@@ -56,9 +57,9 @@ fn read_line(out: &mut [u8], number: u64, bytes: usize, kind: Kind) -> usize
     ensures { λ r. ⌜ Counts r (now (out .exit)) ⌝ }
     ensures written { λ r. ⌜ take r (now (out .exit)) ≡ itemLine number (decimal bytes) (kindName kind) 0 0 ⌝ }
 {
-    let after_number = texts::put_number(out, 0, number, SPACE);
-    let after_bytes = texts::put_number(out, after_number, bytes as u64, SPACE);
-    let after_kind = texts::put_kind(out, after_bytes, kind, SPACE);
+    let after_number = fields::put_number(out, 0, number, SPACE);
+    let after_bytes = fields::put_number(out, after_number, bytes as u64, SPACE);
+    let after_kind = fields::put_kind(out, after_bytes, kind, SPACE);
     put_refusal(out, after_kind, 0, 0)
 }
 
@@ -68,9 +69,9 @@ fn refused_line(out: &mut [u8], number: u64, bytes: usize, refusal: u32, place: 
     ensures { λ r. ⌜ Counts r (now (out .exit)) ⌝ }
     ensures written { λ r. ⌜ take r (now (out .exit)) ≡ itemLine number (decimal bytes) dash refusal place ⌝ }
 {
-    let after_number = texts::put_number(out, 0, number, SPACE);
-    let after_bytes = texts::put_number(out, after_number, bytes as u64, SPACE);
-    let after_kind = texts::put(out, after_bytes, b"-", SPACE);
+    let after_number = fields::put_number(out, 0, number, SPACE);
+    let after_bytes = fields::put_number(out, after_number, bytes as u64, SPACE);
+    let after_kind = fields::put(out, after_bytes, b"-", SPACE);
     put_refusal(out, after_kind, refusal as u64, place as u64)
 }
 
@@ -79,9 +80,9 @@ pub(crate) fn too_long(out: &mut [u8], number: u64) -> usize
     ensures { λ r. ⌜ Counts r (now (out .exit)) ⌝ }
     ensures written { λ r. ⌜ take r (now (out .exit)) ≡ tooLongLine number ⌝ }
 {
-    let after_number = texts::put_number(out, 0, number, SPACE);
-    let after_bytes = texts::put(out, after_number, b"-", SPACE);
-    let after_kind = texts::put(out, after_bytes, b"-", SPACE);
+    let after_number = fields::put_number(out, 0, number, SPACE);
+    let after_bytes = fields::put(out, after_number, b"-", SPACE);
+    let after_kind = fields::put(out, after_bytes, b"-", SPACE);
     put_refusal(out, after_kind, 8, 0)
 }
 

@@ -1,9 +1,9 @@
 // The listing program (document 01, "The listing"): reads a boundary and a stream from standard input, and writes a line for each item.
 // specs/Listing.antt says what is written for a whole input. What a call of the framing gives to print, and where the boundary ends, are
 // proved here; reading and writing have no contract.
+mod fields;
 mod lines;
 mod start;
-mod texts;
 mod turns;
 
 use libc::STDIN_FILENO;

@@ -2,10 +2,16 @@
 use borrow.Author.Needs.{needs}
 use Rattle.items.proofs.lines.read_line.Statement.{statement}
 use Rattle.items.proofs.lines.read_line.Tie as tie
-use mathlib.Core.List.{_++_}
-use Rattle.items.specs.Texts.{space, lineEnd, field, decimal, kindName}
-use Rattle.items.proofs.Fields.{in-a-row}
+use mathlib.Core.Path.{_≡_}
+use mathlib.Core.List.{List, _++_, append-assoc}
+use Prim.Native.Nat.{ℕ}
+use Rattle.texts.specs.Fields.{space, lineEnd, field, decimal}
+use Rattle.items.specs.Texts.{kindName}
 use Rattle.items.specs.Lines.{itemLine}
+
+-- four runs one behind the other
+in-a-row : (x y z w : List ℕ) → x ++ y ++ z ++ w ≡ x ++ (y ++ (z ++ w))
+in-a-row x y z w = simp append-assoc
 
 put-number-requires : tie.Need-put-number-requires
 put-number-requires c κs = search needs

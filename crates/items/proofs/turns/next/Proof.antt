@@ -6,7 +6,8 @@ use native.Mathlib.Omega.{arith}
 use denote.Ref.{now}
 use Prim.Native.Nat.{_≤_}
 use Rattle.framing.specs.Cutting.{linkLimit, itemLength}
-use Rattle.items.proofs.Calls.{answer-short, taken-within, line-is, turn-is}
+use Rattle.framing.proofs.Bounds.{answer-short, taken-within}
+use Rattle.items.proofs.Calls.{line-is, turn-is}
 
 gather-requires : tie.Need-gather-requires
 gather-requires c κs = search needs

@@ -1,0 +1,264 @@
+-- What becomes of a push by what bears on it. `fateBy` looks at no number and no handle, so pushes that differ in these alone have one
+-- `tale`. In a sound session that is up and stays up, an accepted call does to the pushes with the number n what it is to n.
+-- Assumes nothing.
+use mathlib.Core.Path.{_≡_, refl, sym, ap, ap₂, subst⁻¹, _∙_}
+use mathlib.Core.Bool.{Bool, true, false, cond, _&&_}
+use mathlib.Core.List.{List, [], _∷_, _++_, map}
+use Prim.Native.Nat.{ℕ, _+_}
+use lib.Dec.{eqb, ltb}
+use borrow.Author.Tests.{eq-eqb, ne-eqb, eqb-true}
+use Rattle.laws.proofs.Tests.{true-false}
+use Rattle.message.specs.declared.Kind.{Kind}
+use Rattle.message.specs.declared.Kind.the-variants as kinds
+use Rattle.message.specs.declared.Number.{Number}
+use Rattle.message.specs.declared.Number.the-variants as numbers
+use Rattle.message.specs.declared.Advice.{Advice}
+use Rattle.message.specs.declared.Advice.the-variants as advices
+use Rattle.message.specs.declared.NumberValue.{NumberValue}
+use Rattle.message.specs.declared.Message.{Message}
+use Rattle.message.proofs.Laws.{cond-cases, cond-both}
+use Rattle.conduct.specs.Lists.{flat, among, distinct}
+use Rattle.conduct.specs.Codes.{sendResponseAgain, closedAcknowledged, closedAdvised, closedTimedOut, advisoryArrived}
+use Rattle.conduct.specs.Pushes.{eventOf, older, sentAgain, sentOnce, againOr, fateOf, keptBy, toldBy}
+use Rattle.conduct.specs.Session.{Session, isUp, awaitedNumbers, pushNumbers, held}
+use Rattle.conduct.specs.Sound.{sound}
+use Rattle.conduct.specs.Table.{actionOf}
+use Rattle.conduct.specs.Rules as rules
+use Rattle.conduct.specs.Rules.{goes, touches, note, tick, namedBy, unmatched, advisedAbout, acted, moveOf}
+use Rattle.conduct.specs.History.{namesNumber, names, isUnreadableMessage, Bearing, adviceBearing, messageBearing, callBearing}
+use Rattle.conduct.specs.History.Bearing.{ticked, acknowledged, unreadable, advised}
+use Rattle.conduct.specs.declared.Awaited.{Awaited}
+use Rattle.conduct.specs.declared.Awaited.the-variants as awaited
+use Rattle.conduct.specs.declared.State.{State}
+use Rattle.conduct.specs.declared.State.the-variants.{Waiting, Connecting, Opening, Confirming, Up, Stopped}
+use Rattle.conduct.specs.declared.Pushed.{Pushed}
+use Rattle.conduct.specs.declared.Push.{Push}
+use Rattle.conduct.specs.declared.Event.{Event}
+use Rattle.conduct.specs.declared.Call.{Call}
+use Rattle.conduct.specs.declared.Call.the-variants as calls
+use Rattle.conduct.specs.declared.Sweep.{Sweep}
+use Rattle.conduct.specs.declared.Sweep.the-variants as sweeps
+use Rattle.conduct.specs.declared.Fate.{Fate}
+use Rattle.conduct.specs.declared.Fate.the-variants.{Keep, Again, Close}
+use Rattle.conduct.specs.declared.Remark.{Remark}
+use Rattle.conduct.specs.declared.Remark.the-variants as remarks
+use Rattle.conduct.specs.declared.Move.{Move}
+use Rattle.conduct.proofs.Lists.{distinct-head}
+use Rattle.conduct.proofs.Good.{good}
+use Rattle.conduct.proofs.Sweeps.{mine}
+use Rattle.conduct.proofs.Calls.{none-mine}
+
+-- ---- fates
+
+abbrev fateBy : Bearing → Push → Fate
+fateBy ticked p = fateOf sweeps.Older p
+fateBy acknowledged p = Close (eventOf closedAcknowledged p)
+fateBy unreadable p = againOr closedAdvised p
+fateBy advised p = Close (eventOf closedAdvised p)
+
+-- of a call: one that bears on nothing leaves a push as it is
+abbrev pub fateIn : List Bearing → Push → Fate
+fateIn [] p = Keep p
+fateIn (b ∷ bs) p = fateBy b p
+
+abbrev pub codesOf : List Event → List ℕ
+codesOf es = map (λ (e : Event). e .code) es
+
+-- what is said of the pushes ms at each of what bears on them, one after the other
+abbrev pub tale : List Push → List Bearing → List (List ℕ)
+tale ms [] = []
+tale ms (b ∷ bs) = codesOf (flat (λ (p : Push). toldBy (fateBy b p)) ms) ∷ tale (flat (λ (p : Push). keptBy (fateBy b p)) ms) bs
+
+-- ---- pushes that differ in their numbers and handles
+
+abbrev pushWith : Pushed → ℕ → ℕ → ℕ → ℕ → Push
+pushWith what sent age n h = record { what = what; number = n; handle = h; sent = sent; age = age }
+
+module _ (bs : List Bearing) (what : Pushed) (sent age n n′ h h′ : ℕ) where
+  abbrev p : Push
+  p = pushWith what sent age n h
+
+  abbrev q : Push
+  q = pushWith what sent age n′ h′
+
+  abbrev talesAgree : List Push → List Push → Type 0
+  talesAgree ms ms′ = tale ms bs ≡ tale ms′ bs
+
+  -- a tale that begins with a fate: p's and q's
+  abbrev taleFrom : Fate → List (List ℕ)
+  taleFrom f = codesOf (toldBy f ++ []) ∷ tale (keptBy f ++ []) bs
+
+  abbrev agree : Fate → Fate → Type 0
+  agree f f′ = taleFrom f ≡ taleFrom f′
+
+  agree-if : (b : Bool) (f g f′ g′ : Fate) → agree f f′ → agree g g′ → agree (cond b f g) (cond b f′ g′)
+  agree-if true f g f′ g′ x y = x
+  agree-if false f g f′ g′ x y = y
+
+  again-agrees : (code : ℕ) → talesAgree (sentAgain p ∷ []) (sentAgain q ∷ []) → agree (againOr code p) (againOr code q)
+  again-agrees code anew =
+      agree-if (sentOnce p) (Again (sentAgain p) (eventOf sendResponseAgain p)) (Close (eventOf code p))
+      (Again (sentAgain q) (eventOf sendResponseAgain q)) (Close (eventOf code q)) (ap (_∷_ (sendResponseAgain ∷ [])) anew) refl
+
+  tick-agrees : talesAgree (older p ∷ []) (older q ∷ []) → talesAgree (sentAgain p ∷ []) (sentAgain q ∷ [])
+      → agree (fateBy ticked p) (fateBy ticked q)
+  tick-agrees longer anew =
+      agree-if (ltb age 19) (Keep (older p)) (againOr closedTimedOut p) (Keep (older q)) (againOr closedTimedOut q)
+      (ap (_∷_ []) longer) (again-agrees closedTimedOut anew)
+
+pub same-tale : (bs : List Bearing) (what : Pushed) (sent age n n′ h h′ : ℕ)
+    → tale (pushWith what sent age n h ∷ []) bs ≡ tale (pushWith what sent age n′ h′ ∷ []) bs
+same-tale [] what sent age n n′ h h′ = refl
+same-tale (ticked ∷ bs) what sent age n n′ h h′ =
+    tick-agrees bs what sent age n n′ h h′ (same-tale bs what sent (age + 1) n n′ h h′) (same-tale bs what 2 0 n n′ h h′)
+same-tale (acknowledged ∷ bs) what sent age n n′ h h′ = refl
+same-tale (unreadable ∷ bs) what sent age n n′ h h′ =
+    again-agrees bs what sent age n n′ h h′ closedAdvised (same-tale bs what 2 0 n n′ h h′)
+same-tale (advised ∷ bs) what sent age n n′ h h′ = refl
+
+-- ---- a call, and a push p with the number n, in Up, where n is an open push's number and not the open SessionOk's
+
+module _ (n : ℕ) (p : Push) (own : p .number ≡ n) (interval last : ℕ) (waiting : Awaited) (age : ℕ) (ps : List Push)
+    (not-awaited : among n (awaitedNumbers waiting) ≡ false) (is-open : among n (pushNumbers ps) ≡ true)
+  where
+    abbrev s : Session
+    s = record { interval = interval; state = Up waiting age; pushes = ps; last = last }
+
+    abbrev fateFrom : Move → Fate
+    fateFrom m = fateOf (m .sweep) p
+
+    -- a message that names the number m, where x: m is the open SessionOk's, and y: it is an open push's
+    abbrev naming : (ℕ → Sweep) → Remark → ℕ → Bool → Bool → Move
+    naming f r m x y = cond x (goes (Up awaited.Nothing age) r) (cond y (touches (Up waiting age) (f m)) (unmatched (Up waiting age)))
+
+    -- it is something to p just if m is n
+    named-is : (b : Bearing) (f : ℕ → Sweep) (r : Remark) (m : ℕ)
+        → fateOf (f n) p ≡ fateBy b p → (eqb (p .number) m ≡ false → fateOf (f m) p ≡ Keep p)
+        → fateFrom (naming f r m (among m (awaitedNumbers waiting)) (among m (pushNumbers ps))) ≡ fateIn (cond (eqb m n) (b ∷ []) []) p
+    named-is b f r m same aside =
+        cond-cases (λ (bs : List Bearing). fateFrom (naming f r m x y) ≡ fateIn bs p) (eqb m n) (λ e. its-own (eqb-true m n e))
+        (λ e. other x y (ne-eqb (p .number) m (λ d. true-false (eq-eqb m n (sym d ∙ own)) e)))
+      where
+        x : Bool
+        x = among m (awaitedNumbers waiting)
+
+        y : Bool
+        y = among m (pushNumbers ps)
+
+        its-own : m ≡ n → fateFrom (naming f r m x y) ≡ fateBy b p
+        its-own e =
+            let no-ok : x ≡ false = rw e not-awaited in
+            let a-push : y ≡ true = rw e is-open in
+            rw (no-ok, a-push, e) same
+
+        other : (x y : Bool) → eqb (p .number) m ≡ false → fateFrom (naming f r m x y) ≡ Keep p
+        other true y e = refl
+        other false true e = aside e
+        other false false e = refl
+
+    ok-is : (v : NumberValue) → fateFrom (rules.acknowledged s (namedBy v)) ≡ fateIn (cond (names n v) (acknowledged ∷ []) []) p
+    ok-is v = go (v .there) (v .number)
+      where
+        go : (there : Bool) (number : Number)
+            → fateFrom (rules.acknowledged s (cond there number numbers.Nothing))
+            ≡ fateIn (cond (there && namesNumber n number) (acknowledged ∷ []) []) p
+        go false number = refl
+        go true numbers.Nothing = refl
+        go true (numbers.Names m) =
+            named-is acknowledged sweeps.Acknowledged remarks.Nothing m (rw (eq-eqb (p .number) n own)) (λ e. rw e)
+
+    advisory-is : (m : Message) → fateFrom (rules.advised s m) ≡ fateIn (messageBearing n m kinds.Advisory) p
+    advisory-is m = go (m .«in_relation_to» .there) (m .«in_relation_to» .number) (m .«advisory_type» .there) (m .«advisory_type» .advice)
+      where
+        go : (there : Bool) (number : Number) (typed : Bool) (advice : Advice)
+            → fateFrom (cond there (advisedAbout s (cond typed advice advices.Other) number) (goes (s .state) (note advisoryArrived)))
+            ≡ fateIn (cond (there && namesNumber n number) (adviceBearing (typed && isUnreadableMessage advice) ∷ []) []) p
+        go false number typed advice = refl
+        go true numbers.Nothing typed advice = refl
+        go true (numbers.Names m) true advices.UnreadableMessage =
+            named-is unreadable sweeps.Unreadable (note advisoryArrived) m (rw (eq-eqb (p .number) n own)) (λ e. rw e)
+        go true (numbers.Names m) true advices.Other =
+            named-is advised sweeps.Advised (note advisoryArrived) m (rw (eq-eqb (p .number) n own)) (λ e. rw e)
+        go true (numbers.Names m) false advice =
+            named-is advised sweeps.Advised (note advisoryArrived) m (rw (eq-eqb (p .number) n own)) (λ e. rw e)
+
+    heard-is : (m : Message) (k : Kind) → fateFrom (acted s m (actionOf (Up waiting age) k)) ≡ fateIn (messageBearing n m k) p
+    heard-is m kinds.SessionOpenRequest = refl
+    heard-is m kinds.SessionOpenResponse = refl
+    heard-is m kinds.SessionOk = refl
+    heard-is m kinds.Ok = ok-is (m .«in_response_to»)
+    heard-is m kinds.Advisory = advisory-is m
+    heard-is m kinds.Request = refl
+    heard-is m kinds.Response = refl
+
+    -- a tick after which the session is still up
+    abbrev TickIs : Move → Type 0
+    TickIs m = isUp (m .to) ≡ true → fateFrom m ≡ fateOf sweeps.Older p
+
+    tick-is : (next : ℕ) (w : Awaited) → TickIs (tick interval next (Up w age))
+    tick-is next awaited.Nothing = cond-both TickIs (ltb (age + 1) interval) (λ u. refl) (λ u. refl)
+    tick-is next (awaited.Ok number) = cond-both TickIs (ltb age 19) (λ u. refl) (λ u. absurd (true-false u refl))
+
+    call-is : (c : Call) → isUp (moveOf s c .to) ≡ true → fateFrom (moveOf s c) ≡ fateIn (callBearing n c) p
+    call-is calls.Tick u = tick-is _ waiting u
+    call-is calls.Connected u = absurd (true-false u refl)
+    call-is calls.Lost u = absurd (true-false u refl)
+    call-is calls.Stop u = absurd (true-false u refl)
+    call-is (calls.Give what handle) u = refl
+    call-is (calls.Heard m) u = heard-is m (m .kind)
+    call-is (calls.Unreadable refusal) u = refl
+
+-- ---- a call, and all pushes with the number n
+
+-- an open push's number is not the open SessionOk's
+not-awaited-too : (n : ℕ) (w : Awaited) (ms : List ℕ) → distinct (awaitedNumbers w ++ ms) ≡ true → among n ms ≡ true
+    → among n (awaitedNumbers w) ≡ false
+not-awaited-too n awaited.Nothing ms d h = refl
+not-awaited-too n (awaited.Ok m) ms d h = rw (ne-eqb n m (λ e. true-false h (rw e (distinct-head m ms d))))
+
+flat-mine : {B : Type 0} (n : ℕ) (f g : Push → List B) → ((p : Push) → p .number ≡ n → f p ≡ g p) → (ps : List Push)
+    → flat f (mine n ps) ≡ flat g (mine n ps)
+flat-mine n f g h [] = refl
+flat-mine n f g h (p ∷ ps) = go (eqb (p .number) n) refl (flat-mine n f g h ps)
+  where
+    go : (b : Bool) → eqb (p .number) n ≡ b → flat f (mine n ps) ≡ flat g (mine n ps)
+        → flat f (cond b (p ∷ []) [] ++ mine n ps) ≡ flat g (cond b (p ∷ []) [] ++ mine n ps)
+    go true e ih = ap₂ _++_ (h p (eqb-true (p .number) n e)) ih
+    go false e ih = ih
+
+-- g is what is said of a push, or what is left of it
+module _ {B : Type 0} (g : Fate → List B) (n : ℕ) (c : Call) where
+  abbrev Borne : Session → Type 0
+  Borne s =
+      flat (λ (p : Push). g (fateOf (moveOf s c .sweep) p)) (mine n (s .pushes))
+      ≡ flat (λ (p : Push). g (fateIn (callBearing n c) p)) (mine n (s .pushes))
+
+  borne-up : (interval last : ℕ) (w : Awaited) (age : ℕ) (ps : List Push)
+      → let s : Session = record { interval = interval; state = Up w age; pushes = ps; last = last } in
+      distinct (held s) ≡ true → isUp (moveOf s c .to) ≡ true → Borne s
+  borne-up interval last w age ps d u = go (among n (pushNumbers ps)) refl
+    where
+      s : Session
+      s = record { interval = interval; state = Up w age; pushes = ps; last = last }
+
+      go : (b : Bool) → among n (pushNumbers ps) ≡ b → Borne s
+      go true e =
+          flat-mine n (λ (p : Push). g (fateOf (moveOf s c .sweep) p)) (λ (p : Push). g (fateIn (callBearing n c) p))
+          (λ p own. ap g (call-is n p own interval last w age ps (not-awaited-too n w (pushNumbers ps) d e) e c u))
+          ps
+      go false e = rw (none-mine n ps e)
+
+  pub borne : (s : Session) → sound s ≡ true → isUp (s .state) ≡ true → isUp (moveOf s c .to) ≡ true → Borne s
+  borne s ok up stays = go (s .state) refl up
+    where
+      go : (state : State) → s .state ≡ state → isUp state ≡ true → Borne s
+      go (Waiting left) e u = absurd (true-false u refl)
+      go Connecting e u = absurd (true-false u refl)
+      go (Opening age) e u = absurd (true-false u refl)
+      go (Confirming number age) e u = absurd (true-false u refl)
+      go (Up w age) e u =
+          subst⁻¹ (λ (t : Session). distinct (held t) ≡ true → isUp (moveOf t c .to) ≡ true → Borne t)
+          (λ i. record { interval = s .interval; state = e i; pushes = s .pushes; last = s .last })
+          (borne-up (s .interval) (s .last) w age (s .pushes))
+          (good {s = s} ok .numbers-are) stays
+      go Stopped e u = absurd (true-false u refl)

@@ -1,0 +1,39 @@
+-- The sessions that can come about: the test behind refusal 27. docs/CONSISTENCY.md lists it. Assumes nothing.
+use mathlib.Core.Bool.{Bool, true, _&&_, _||_}
+use Prim.Native.Nat.{ℕ}
+use lib.Dec.{leb, ltb, eqb}
+use lib.ListN.{length}
+use Rattle.conduct.specs.Lists.{all, distinct}
+use Rattle.conduct.specs.Session.{Session, allowedInterval, isUp, held}
+use Rattle.conduct.specs.declared.Awaited.the-variants as awaited
+use Rattle.conduct.specs.declared.State.{State}
+use Rattle.conduct.specs.declared.State.the-variants.{Waiting, Connecting, Opening, Confirming, Up, Stopped}
+use Rattle.conduct.specs.declared.Push.{Push}
+use Rattle.conduct.specs.declared.Pushed.{Pushed}
+use Rattle.conduct.specs.declared.Pushed.the-variants.{Response, Advisory}
+
+-- the timer of the state is in its range
+abbrev pub soundState : ℕ → State → Bool
+soundState interval (Waiting left) = leb 1 left && leb left 300
+soundState interval Connecting = true
+soundState interval (Opening age) = ltb age 20
+soundState interval (Confirming number age) = ltb age 20
+soundState interval (Up (awaited.Ok number) age) = ltb age 20
+soundState interval (Up awaited.Nothing age) = ltb age interval
+soundState interval Stopped = true
+
+-- sent once or, a Response, twice, and less than 20 ticks ago
+abbrev pub mostSendings : Pushed → ℕ
+mostSendings Response = 2
+mostSendings Advisory = 1
+
+abbrev pub soundPush : Push → Bool
+soundPush p = leb 1 (p .sent) && (leb (p .sent) (mostSendings (p .what)) && ltb (p .age) 20)
+
+-- at most 32 pushes, none outside Up, and no number twice
+abbrev pub sound : Session → Bool
+sound s =
+    allowedInterval (s .interval)
+    && (soundState (s .interval) (s .state)
+    && (leb (length (s .pushes)) 32
+    && ((isUp (s .state) || eqb (length (s .pushes)) 0) && (all soundPush (s .pushes) && distinct (held s)))))

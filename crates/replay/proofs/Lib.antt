@@ -1,0 +1,7 @@
+-- `Digits` has the laws of a number of any size, `Words` those of a word and the number behind it, `Written` those of the fields of a line,
+-- and `Turns` those of the program's own functions. `Whole` has the theorem on a whole script.
+mod Digits
+mod Words
+mod Written
+mod Turns
+pub mod Whole

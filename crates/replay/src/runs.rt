@@ -1,0 +1,151 @@
+// A run of a script: what is kept from one line to the next.
+use crate::script::Line;
+use session::Session;
+use session::Told;
+ghost use mathlib.Core.Path.{_≡_};
+ghost use Rattle.replay.specs.Runs.{following, freshRun, madeRun, endsSettings as Runs·endsSettings, readyFor, afterCall as Runs·afterCall, nextLine, settled as Runs·settled, renumbered as Runs·renumbered};
+
+// Settings come first; then the session runs, or its making was refused.
+pub(crate) enum Phase {
+    Settling,
+    Running,
+    Refused,
+}
+
+pub(crate) struct Run {
+    pub(crate) phase: Phase,
+    pub(crate) interval: u32,
+    pub(crate) session: Session,
+    // The numbers of the next call and of the next line.
+    pub(crate) call: u64,
+    pub(crate) line: u64,
+}
+
+// The next number; no run comes to the last one.
+fn next(number: u64) -> u64
+    ensures { λ r. ⌜ r ≡ following number ⌝ }
+{
+    if number < u64::MAX {
+        return number + 1;
+    }
+    number
+}
+
+pub(crate) fn fresh() -> Run
+    ensures { λ r. ⌜ r ≡ freshRun ⌝ }
+{
+    let made = session::make(100);
+    let session = made.session;
+    Run {
+        phase: Phase::Settling,
+        interval: 100,
+        session,
+        call: 1,
+        line: 1,
+    }
+}
+
+// The session is made.
+fn made(run: Run) -> Run
+    ensures { λ r. ⌜ r ≡ madeRun run ⌝ }
+{
+    let made = session::make(run.interval);
+    let session = made.session;
+    let mut phase = Phase::Running;
+    if made.refusal != 0 {
+        phase = Phase::Refused;
+    }
+    Run {
+        phase,
+        interval: run.interval,
+        session,
+        call: run.call,
+        line: run.line,
+    }
+}
+
+fn ends_settings(line: Line) -> bool
+    ensures { λ r. ⌜ r ≡ Runs·endsSettings line ⌝ }
+{
+    match line {
+        Line::Nothing => false,
+        Line::Interval(_) => false,
+        Line::Ticks(_) => true,
+        Line::Other(_) => true,
+        Line::Message => true,
+        Line::Last(_) => true,
+        Line::Bad => true,
+    }
+}
+
+// The session is made as soon as a line, or the end of the script, ends the settings.
+pub(crate) fn ready(run: Run, line: Line) -> Run
+    ensures { λ r. ⌜ r ≡ readyFor run line ⌝ }
+{
+    let phase = run.phase;
+    match phase {
+        Phase::Settling => { if ends_settings(line) { made(run) } else { run } }
+        Phase::Running => run,
+        Phase::Refused => run,
+    }
+}
+
+// A call was made on the session.
+pub(crate) fn after_call(run: Run, told: Told) -> Run
+    ensures { λ r. ⌜ r ≡ Runs·afterCall run told ⌝ }
+{
+    let phase = run.phase;
+    let session = told.next;
+    Run {
+        phase,
+        interval: run.interval,
+        session,
+        call: next(run.call),
+        line: run.line,
+    }
+}
+
+// The next line.
+pub(crate) fn next_line(run: Run) -> Run
+    ensures { λ r. ⌜ r ≡ nextLine run ⌝ }
+{
+    let phase = run.phase;
+    let session = run.session;
+    Run {
+        phase,
+        interval: run.interval,
+        session,
+        call: run.call,
+        line: next(run.line),
+    }
+}
+
+// A setting is taken.
+pub(crate) fn settled(run: Run, interval: u32) -> Run
+    ensures { λ r. ⌜ r ≡ Runs·settled run interval ⌝ }
+{
+    let phase = run.phase;
+    let session = run.session;
+    Run {
+        phase,
+        interval,
+        session,
+        call: run.call,
+        line: run.line,
+    }
+}
+
+// The last taken number is set.
+pub(crate) fn renumbered(run: Run, last: u32) -> Run
+    ensures { λ r. ⌜ r ≡ Runs·renumbered run last ⌝ }
+{
+    let phase = run.phase;
+    let session = run.session;
+    Run {
+        phase,
+        interval: run.interval,
+        session: session.with_last(last),
+        call: run.call,
+        line: run.line,
+    }
+}

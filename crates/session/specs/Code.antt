@@ -1,0 +1,90 @@
+-- Promise 8, the code's answers are the history: what calls of a record answer, call by call, is what its session does. (proofs/Histories)
+-- By their contracts the public calls answer `told`, so what is said here of `told` is said of the code. Assumes nothing.
+use mathlib.Core.Path.{_≡_}
+use mathlib.Core.Bool.{Bool, true, not}
+use mathlib.Core.List.{List, [], _∷_, map}
+use mathlib.Core.Logic.{_⊎_}
+use Prim.Native.Nat.{ℕ, _≤_, _<_}
+use lib.Dec.{leb, ltb, eqb}
+use lib.ListN.{length}
+use Rattle.conduct.specs.declared.Call.{Call}
+use Rattle.conduct.specs.declared.State.the-variants.{Stopped}
+use Rattle.conduct.specs.Lists.{all}
+use Rattle.conduct.specs.Session.{fresh}
+use Rattle.conduct.specs.History.{Entry, history}
+use Rattle.session.specs.Rows.{rowsOf, eventsOf, listOf}
+use Rattle.session.specs.Record.{sessionOf, recordOf, consistent, madeOf}
+use Rattle.session.specs.Answers.{told}
+use Rattle.session.specs.declared.Session.{Session as Record}
+use Rattle.session.specs.declared.Told.{Told}
+
+-- ---- calls one after the other, each on the record that the one before handed back
+
+-- a call, and how many places the event list has that the host keeps for it
+pub record Asked : Type 0 where
+  pub call : Call
+  pub places : ℕ
+
+abbrev pub toldBy : Record → Asked → Told
+toldBy d a = told (a .places) d (a .call)
+
+abbrev pub recordAfter : Record → List Asked → Record
+recordAfter d [] = d
+recordAfter d (a ∷ rest) = recordAfter (toldBy d a .next) rest
+
+-- what a host sees of one answer, and of all
+abbrev pub seen : Call → Told → Entry
+seen c t = record { call = c; refusal = t .refusal; events = listOf (t .events); state = t .next .state }
+
+abbrev pub answers : Record → List Asked → List Entry
+answers d [] = []
+answers d (a ∷ rest) = seen (a .call) (toldBy d a) ∷ answers (toldBy d a .next) rest
+
+-- with no list too short, from any record that passes the test
+abbrev pub roomy : Asked → Bool
+roomy a = leb 40 (a .places)
+
+abbrev pub AnswersAreHistory : Type 0
+AnswersAreHistory =
+    (d : Record) (asked : List Asked) → consistent d ≡ true → all roomy asked ≡ true
+    → answers d asked ≡ history (sessionOf d) (map (λ (a : Asked). a .call) asked)
+
+-- ---- 27 is for no record that was made, nor for one that calls with any lists reached from one that passes
+
+abbrev pub MadeIsConsistent : Type 0
+MadeIsConsistent = (interval : ℕ) → consistent (madeOf interval .session) ≡ true
+
+abbrev pub ReachedIsConsistent : Type 0
+ReachedIsConsistent = (d : Record) (asked : List Asked) → consistent d ≡ true → consistent (recordAfter d asked) ≡ true
+
+-- ---- making one: 4 outside 21 to 6000, with a session that is stopped, and only there
+
+abbrev pub MadeAllowed : Type 0
+MadeAllowed =
+    (interval : ℕ) → 21 ≤ interval → interval ≤ 6000
+    → (madeOf interval .refusal ≡ 0) × (madeOf interval .session ≡ recordOf (fresh interval))
+
+abbrev pub MadeRefused : Type 0
+MadeRefused =
+    (interval : ℕ) → (interval < 21) ⊎ (6000 < interval)
+    → (madeOf interval .refusal ≡ 4) × (madeOf interval .session .interval ≡ 21) × (madeOf interval .session .state ≡ Stopped)
+    × (rowsOf (madeOf interval .session .pushes) ≡ []) × (madeOf interval .session .last ≡ 0)
+
+-- ---- refusals, for any record: 3 just where the list is too short, 27 just where it is not and the record fails the test
+
+abbrev pub ShortListRefused : Type 0
+ShortListRefused = (places : ℕ) (d : Record) (c : Call) → eqb (told places d c .refusal) 3 ≡ ltb places 40
+
+abbrev pub InconsistentRefused : Type 0
+InconsistentRefused = (places : ℕ) (d : Record) (c : Call) → 40 ≤ places → eqb (told places d c .refusal) 27 ≡ not (consistent d)
+
+-- a refused call hands back the record as it was, whatever is in it, and no event; each record of the code has 32 rows
+abbrev pub RefusedReturnsTheOld : Type 0
+RefusedReturnsTheOld =
+    (places : ℕ) (d : Record) (c : Call) → length (d .pushes .rows) ≡ 32 → (told places d c .refusal ≡ 0 → ⊥)
+    → (told places d c .next ≡ d) × (told places d c .events ≡ eventsOf [])
+
+-- ---- the events fit any list that is not refused
+
+abbrev pub ListFits : Type 0
+ListFits = (places : ℕ) (d : Record) (c : Call) → (told places d c .events .count ≤ places) × (told places d c .events .count ≤ 34)

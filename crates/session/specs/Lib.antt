@@ -1,0 +1,10 @@
+-- `Rows` says how pushes and events lie in a table, `Record` how a session lies in the record, with the test behind 27, and `Answers` what each call of a
+-- record answers. `Written` is what the code has while it writes, `Lent` what goes to a lent list. `Code` promises
+-- what the code's answers are over any calls.
+pub mod Rows
+pub mod Record
+pub mod Written
+pub mod Answers
+pub mod Heard
+pub mod Lent
+pub mod Code

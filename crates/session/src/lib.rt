@@ -1,0 +1,219 @@
+// The provider's session (document 01, "The session"): each call takes a session by value and hands back the one that follows it. What the calls do is said in
+// crates/conduct; specs/ says how a session lies in the record below. The record is public, so that a host can keep it where it likes: whatever is in it, every
+// call has an answer.
+mod calls;
+mod lent;
+mod messages;
+mod numbers;
+mod pushes;
+mod sound;
+mod tables;
+mod ticks;
+mod writing;
+
+use conduct::Call;
+use conduct::Event;
+use conduct::Push;
+use conduct::Pushed;
+use conduct::State;
+use message::Answer;
+use message::Message;
+ghost use mathlib.Core.Path.{_≡_};
+ghost use lib.ListN.{length};
+ghost use Rattle.conduct.specs.declared.Call.the-variants as variants;
+ghost use Rattle.conduct.specs.declared.Pushed.the-variants as pushed;
+ghost use Rattle.session.specs.Record.{madeOf, withLast};
+ghost use Rattle.session.specs.Answers.{told as Answers·told, SaysAndWrites, callOfBytes};
+
+// The open pushes, in order of acceptance: the first `count` rows. The other rows are blank.
+pub struct Table {
+    pub rows: [Push; 32],
+    pub count: usize,
+}
+
+pub struct Session {
+    pub interval: u32,
+    pub state: State,
+    pub pushes: Table,
+    // The last number taken.
+    pub last: u32,
+}
+
+// The events of a call: the first `count` places. The other places are blank.
+pub struct Events {
+    pub list: [Event; 40],
+    pub count: usize,
+}
+
+// What a call answers: its refusal or 0, the session that follows it, and its events.
+pub struct Told {
+    pub refusal: u32,
+    pub next: Session,
+    pub events: Events,
+}
+
+// What a call answers that writes its events to a lent list: how many it wrote.
+pub struct Said {
+    pub refusal: u32,
+    pub next: Session,
+    pub count: usize,
+}
+
+// What making a session answers: refusal 4 or 0, and the session.
+pub struct Made {
+    pub refusal: u32,
+    pub session: Session,
+}
+
+// A fresh session with a heartbeat every `interval` ticks; a stopped one where that is refused.
+pub fn make(interval: u32) -> Made
+    ensures { λ r. ⌜ r ≡ madeOf interval ⌝ }
+{
+    if interval < 21 {
+        return refused_making();
+    }
+    if 6000 < interval {
+        return refused_making();
+    }
+    Made {
+        refusal: 0,
+        session: Session {
+            interval,
+            state: State::Waiting(1),
+            pushes: tables::empty(),
+            last: 0,
+        },
+    }
+}
+
+fn refused_making() -> Made
+    ensures { λ r. ⌜ r ≡ madeOf 0 ⌝ }
+{
+    Made {
+        refusal: 4,
+        session: Session {
+            interval: 21,
+            state: State::Stopped,
+            pushes: tables::empty(),
+            last: 0,
+        },
+    }
+}
+
+impl Session {
+    // Any call, for a host whose event list has so many places.
+    pub fn told(self, call: Call, places: usize) -> Told
+        ensures { λ r. ⌜ r ≡ Answers·told places self call ⌝ }
+    {
+        calls::told(self, call, places)
+    }
+
+    pub fn tick(self, places: usize) -> Told
+        ensures { λ r. ⌜ r ≡ Answers·told places self variants.Tick ⌝ }
+    {
+        self.told(Call::Tick, places)
+    }
+
+    // The link that event 1 asked for is there.
+    pub fn connected(self, places: usize) -> Told
+        ensures { λ r. ⌜ r ≡ Answers·told places self variants.Connected ⌝ }
+    {
+        self.told(Call::Connected, places)
+    }
+
+    // The link is gone.
+    pub fn lost(self, places: usize) -> Told
+        ensures { λ r. ⌜ r ≡ Answers·told places self variants.Lost ⌝ }
+    {
+        self.told(Call::Lost, places)
+    }
+
+    pub fn stop(self, places: usize) -> Told
+        ensures { λ r. ⌜ r ≡ Answers·told places self variants.Stop ⌝ }
+    {
+        self.told(Call::Stop, places)
+    }
+
+    // The host pushes a Response, or an Advisory.
+    pub fn respond(self, handle: u32, places: usize) -> Told
+        ensures { λ r. ⌜ r ≡ Answers·told places self (variants.Give pushed.Response handle) ⌝ }
+    {
+        self.told(Call::Give(Pushed::Response, handle), places)
+    }
+
+    pub fn advise(self, handle: u32, places: usize) -> Told
+        ensures { λ r. ⌜ r ≡ Answers·told places self (variants.Give pushed.Advisory handle) ⌝ }
+    {
+        self.told(Call::Give(Pushed::Advisory, handle), places)
+    }
+
+    // A message that the reader has read, and the reader's refusal of one.
+    pub fn heard(self, message: Message, places: usize) -> Told
+        ensures { λ r. ⌜ r ≡ Answers·told places self (variants.Heard message) ⌝ }
+    {
+        self.told(Call::Heard(message), places)
+    }
+
+    pub fn unreadable(self, refusal: u32, places: usize) -> Told
+        ensures { λ r. ⌜ r ≡ Answers·told places self (variants.Unreadable refusal) ⌝ }
+    {
+        self.told(Call::Unreadable(refusal), places)
+    }
+
+    // The bytes of a message: they are read, and what the reader answers is handed in.
+    pub fn hear(self, message: &[u8], places: usize) -> Told
+        ensures { λ r. ⌜ r ≡ Answers·told places self (callOfBytes (now (message .entry))) ⌝ }
+    {
+        let said = reader::read(message);
+        match said {
+            Answer::Read(read) => self.told(Call::Heard(read), places),
+            Answer::Refused(refusal, _) => self.told(Call::Unreadable(refusal), places),
+        }
+    }
+
+    // Any call, with its events written to the start of the list that the host lends.
+    pub fn told_into(self, call: Call, list: &mut [Event]) -> Said
+        ensures { λ r. ⌜ SaysAndWrites (Answers·told (length (now (list .entry))) self call) (now (list .entry)) r (now (list .exit)) ⌝ }
+    {
+        let told = self.told(call, list.len());
+        let events = told.events;
+        let all = events.list;
+        let count = lent::give(list, all, events.count);
+        let next = told.next;
+        Said {
+            refusal: told.refusal,
+            next,
+            count,
+        }
+    }
+
+    // The same for the bytes of a message.
+    pub fn hear_into(self, message: &[u8], list: &mut [Event]) -> Said
+        ensures { λ r. ⌜ SaysAndWrites (Answers·told (length (now (list .entry))) self (callOfBytes (now (message .entry)))) (now (list .entry)) r (now (list .exit)) ⌝ }
+    {
+        let heard = self.hear(message, list.len());
+        let events = heard.events;
+        let all = events.list;
+        let count = lent::give(list, all, events.count);
+        let next = heard.next;
+        Said {
+            refusal: heard.refusal,
+            next,
+            count,
+        }
+    }
+
+    // The same session with another number as the last one taken: so that a trial can begin where the numbers wrap.
+    pub fn with_last(self, last: u32) -> Session
+        ensures { λ r. ⌜ r ≡ withLast last self ⌝ }
+    {
+        let state = self.state;
+        let pushes = self.pushes;
+        Session {
+            interval: self.interval,
+            state,
+            pushes,
+            last,
+        }
+    }
+}

@@ -1,0 +1,106 @@
+// The test behind refusal 27.
+use crate::Session;
+use crate::numbers;
+use crate::tables;
+use conduct::Awaited;
+use conduct::State;
+ghost use mathlib.Core.Path.{_≡_};
+ghost use mathlib.Core.Bool.{_||_};
+ghost use lib.Dec.{eqb};
+ghost use Rattle.conduct.specs.declared.State.the-variants as states;
+ghost use Rattle.conduct.specs.Session.{isUp, allowedInterval};
+ghost use Rattle.conduct.specs.Sound.{soundState};
+ghost use Rattle.session.specs.Record.{consistent};
+
+fn is_allowed(interval: u32) -> bool
+    ensures { λ r. ⌜ r ≡ allowedInterval interval ⌝ }
+{
+    if interval < 21 {
+        return false;
+    }
+    interval <= 6000
+}
+
+fn is_waiting_sound(left: u32) -> bool
+    ensures { λ r. ⌜ r ≡ soundState 0 (states.Waiting left) ⌝ }
+{
+    if left < 1 {
+        return false;
+    }
+    left <= 300
+}
+
+fn is_up_sound(interval: u32, awaited: Awaited, age: u32) -> bool
+    ensures { λ r. ⌜ r ≡ soundState interval (states.Up awaited age) ⌝ }
+{
+    match awaited {
+        Awaited::Nothing => age < interval,
+        Awaited::Ok(_) => age < 20,
+    }
+}
+
+fn is_state_sound(interval: u32, state: State) -> bool
+    ensures { λ r. ⌜ r ≡ soundState interval state ⌝ }
+{
+    match state {
+        State::Waiting(left) => is_waiting_sound(left),
+        State::Connecting => true,
+        State::Opening(age) => age < 20,
+        State::Confirming(_, age) => age < 20,
+        State::Up(awaited, age) => is_up_sound(interval, awaited, age),
+        State::Stopped => true,
+    }
+}
+
+pub(crate) fn is_up(state: State) -> bool
+    ensures { λ r. ⌜ r ≡ isUp state ⌝ }
+{
+    match state {
+        State::Waiting(_) => false,
+        State::Connecting => false,
+        State::Opening(_) => false,
+        State::Confirming(_, _) => false,
+        State::Up(_, _) => true,
+        State::Stopped => false,
+    }
+}
+
+// Whether so many pushes may be open in a state: none but in Up.
+fn is_quiet(state: State, count: usize) -> bool
+    ensures { λ r. ⌜ r ≡ (isUp state || eqb count 0) ⌝ }
+{
+    if is_up(state) {
+        return true;
+    }
+    count == 0
+}
+
+// Whether the session was made, or can be reached from one that was.
+pub(crate) fn is_consistent(s: Session) -> bool
+    ensures { λ r. ⌜ r ≡ consistent s ⌝ }
+{
+    let table = s.pushes;
+    let count = table.count;
+    let state = s.state;
+    if tables::MOST < count {
+        return false;
+    }
+    if !table.is_blank_after() {
+        return false;
+    }
+    if !is_allowed(s.interval) {
+        return false;
+    }
+    if !is_state_sound(s.interval, state) {
+        return false;
+    }
+    if !is_quiet(state, count) {
+        return false;
+    }
+    if !table.all_sound() {
+        return false;
+    }
+    let holding = numbers::held(s);
+    let held = holding.numbers;
+    numbers::all_differ(&held[..holding.count])
+}

@@ -1,0 +1,109 @@
+#!/usr/bin/env python3
+"""Holds the program `replay` against the independent model of the session.
+
+    python3 tests/compare_replay.py [--cases N] [--seed S] [--case I] PROGRAM [WORD ..]
+
+PROGRAM and the words after it are the command that runs it, say `tools/x86 run target/bin/replay`. Runs the model's own
+tests, the scripts that were written by hand with the output due, from a file and bit by bit through a pipe, the fixed
+vectors of tests/vectors/session.txt, which are also made again, and N random scripts. A difference is printed with what
+repeats it; `python3 tests/independent/session_cases.py S I` prints the script of a random one. The random part counts
+what it met and fails if something never came. The last line is `N passed, M failed`; the exit status is 0 only if
+nothing failed.
+"""
+
+import collections
+import os
+import sys
+
+sys.path.insert(0, os.path.join(os.path.dirname(os.path.abspath(__file__)), "independent"))
+
+from checks import Difference, compare_vectors_made_again, vectors_of  # noqa: E402
+from comparison import random_numbers, run_and_count  # noqa: E402
+from make_session_vectors import vectors_text  # noqa: E402
+from programs import ProgramComparison, output_of_file  # noqa: E402
+from replay_examples import REPLAY_BY_HAND  # noqa: E402
+from replay_script import replay  # noqa: E402
+from session_cases import script_numbered  # noqa: E402
+from session_examples import SESSION_BY_HAND  # noqa: E402
+from session_self_tests import all_self_tests  # noqa: E402
+from session_sightings import TO_SEE, WatchedReplay  # noqa: E402
+from session_vector_text import output_to_text, vector_from_text  # noqa: E402
+
+VECTORS = "session.txt"
+LEAST_CALLS = 100000
+
+COMPARISON = ProgramComparison(
+    description="Holds the program replay against the independent model of the session.", thing="script", cases=540,
+    model=replay, by_hand=SESSION_BY_HAND + REPLAY_BY_HAND, stopped=b"stop 4\n")
+
+
+def run_self_tests(tally, lines):
+    tally.begin("the model's own tests")
+    for name, test in all_self_tests(lines):
+        tally.run("model: " + name, test)
+    tally.run("vectors made again", lambda: compare_vectors_made_again(vectors_text().splitlines(), lines))
+    tally.end()
+
+
+def run_vector(command, line):
+    """What the line says is expected; the model is asked only for what a hash does not show."""
+    vector = vector_from_text(line)
+    given, status = output_of_file(command, vector.script)
+    if output_to_text(given) != vector.output:
+        COMPARISON.check((given, status), vector.script, replay(vector.script))
+        raise Difference("%s, expected %s" % (output_to_text(given), vector.output))
+    if status != 0:
+        raise Difference("exit status %d" % status)
+
+
+def run_vectors(tally, command, lines):
+    tally.begin("fixed vectors")
+    for line in lines:
+        tally.run("vector " + line.split(" ", 1)[0], lambda: run_vector(command, line))
+    tally.end()
+
+
+class Met:
+    """What came up in the random scripts."""
+
+    def __init__(self):
+        self.calls = 0
+        self.seen = collections.Counter()
+
+    def script_and_output(self, seed, number):
+        script, watched = script_numbered(seed, number), WatchedReplay()
+        output = watched.run(script)
+        self.calls += watched.calls
+        self.seen += watched.seen
+        return script, output
+
+    def check_all_seen(self):
+        missing = [thing for thing in TO_SEE if not self.seen[thing]]
+        if missing:
+            raise Difference("never met: " + ", ".join(missing))
+
+    def check_calls(self):
+        if self.calls < LEAST_CALLS:
+            raise Difference("only %d calls" % self.calls)
+
+    def report(self, tally):
+        print("met: " + ", ".join("%s %d times" % (thing, self.seen[thing]) for thing in TO_SEE), flush=True)
+        print("%d calls" % self.calls, flush=True)
+        tally.run("everything met in the random scripts", self.check_all_seen)
+        tally.run("at least %d calls in the random scripts" % LEAST_CALLS, self.check_calls)
+
+
+def run_all(arguments, tally):
+    command, met = arguments.command, Met()
+    if arguments.case is None:
+        lines = vectors_of(VECTORS)
+        run_self_tests(tally, lines)
+        COMPARISON.run_by_hand(tally, command)
+        run_vectors(tally, command, lines)
+    COMPARISON.run_random(tally, command, arguments.seed, random_numbers(arguments), met.script_and_output)
+    if arguments.case is None:
+        met.report(tally)
+
+
+if __name__ == "__main__":
+    sys.exit(run_and_count(COMPARISON.read_arguments(), run_all))

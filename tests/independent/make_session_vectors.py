@@ -1,0 +1,152 @@
+"""Makes the fixed session vectors:  python3 tests/independent/make_session_vectors.py > tests/vectors/session.txt
+
+`session_vector_text` describes the form. Everything expected comes from the model in `session`. Nothing is random here,
+so that every Python makes the same.
+"""
+
+import itertools
+import sys
+
+from replay_script import Replay, replay
+from session_lines import (OPEN_REQUEST, REQUEST, RESPONSE, TO_CONFIRMING, TO_OPENING, TO_UP, advisory, ok,
+                           open_response, script_of, session_ok, unreadable)
+from session_vector_text import Vector, output_to_text, vector_to_text
+
+# After these a fresh session with interval 100 is in the state. In `busy` heartbeat 3 and the pushes 4 and 5 are open.
+STATES = {
+    "waiting": (), "connecting": ("tick",), "opening": TO_OPENING, "confirming": TO_CONFIRMING, "up": TO_UP,
+    "busy": TO_UP + ("tick 100", "push 41", "advise 42"), "full": TO_UP + ("push 41", "advise 42") * 16,
+    "stopped": ("stop",),
+}
+CALLS = {
+    "tick": "tick", "tick-20": "tick 20", "tick-300": "tick 300", "connected": "connected", "lost": "lost",
+    "stop": "stop", "push": "push 9", "advise": "advise 9", "unreadable-7": "unreadable 7",
+    "unreadable-8": "unreadable 8", "unreadable-14": "unreadable 14", "unreadable-15": "unreadable 15",
+    "no-message": "message x", "open-request": OPEN_REQUEST, "opened": open_response(),
+    "opened-redundant": open_response("RedundantSession"), "opened-not": open_response("Other"),
+    "session-ok": session_ok(2), "ok-2": ok(2), "ok-3": ok(3), "ok-5": ok(5), "ok-02": ok("02"),
+    "advisory": advisory(), "advisory-2": advisory(2), "advisory-3": advisory(3), "unreadable-message": unreadable(),
+    "unreadable-message-2": unreadable(2), "unreadable-message-3": unreadable(3), "unreadable-message-4": unreadable(4),
+    "unreadable-message-5": unreadable(5), "request": REQUEST, "response": RESPONSE,
+}
+REFUSED_ALIKE = ("waiting", "connecting", "stopped")  # where every message is refused, a few of them will do
+FEW_CALLS = ("tick", "tick-300", "connected", "lost", "stop", "push", "advise", "unreadable-7", "unreadable-8",
+             "no-message", "opened", "ok-2", "advisory")
+FATES = {"ok": ok(3), "advisory": advisory(3), "unreadable": unreadable(3), "lost": "lost", "stop": "stop"}
+LASTS = (0, 1, 2, 3, 4, 4294967293, 4294967294, 4294967295)
+
+
+def every_call_in_every_state():
+    for state, lines in STATES.items():
+        for call in FEW_CALLS if state in REFUSED_ALIKE else CALLS:
+            yield "%s-%s" % (state, call), lines + (CALLS[call], "push 8", "tick 19", "tick")
+
+
+def fates_of_pushes():
+    """Each answer after so many ticks, then silence."""
+    for push, ticks, fate in itertools.product(("push", "advise"), (1, 5, 19, 20, 21, 39, 40), FATES):
+        yield ("fate-%s-%d-%s" % (push, ticks, fate),
+               TO_UP + (push + " 17", "tick %d" % ticks, FATES[fate], "tick 19", "tick", "tick 20"))
+
+
+def pushes_about_heartbeats():
+    for interval, before, answered in itertools.product((21, 22, 40, 41, 100), (41, 40, 39, 21, 20, 19, 1), (0, 1)):
+        if before < interval:
+            answer = (ok(5),) if answered else (REQUEST,)
+            yield ("heartbeat-%d-%d-%d" % (interval, before, answered),
+                   ("interval %d" % interval,) + TO_UP + ("tick %d" % (interval - before), "push 1", "advise 2",
+                                                          "tick %d" % before) + answer + ("tick 20", "tick 300"))
+
+
+def late_confirming():
+    for interval, ticks in itertools.product((21, 22, 40, 6000), (1, 18, 19, 20)):
+        left = interval - ticks - 1
+        yield ("confirmed-%d-%d" % (interval, ticks),
+               ("interval %d" % interval,) + TO_CONFIRMING
+               + ("tick %d" % ticks, ok(2), "tick %d" % left, "tick", "tick 19", ok(3)))
+
+
+def numbers_taken():
+    """The next number, taken by each call that takes one, after each last number."""
+    for last in LASTS:
+        line = "last %d" % last
+        yield "last-%d-connected" % last, ("tick", line, "connected", open_response(), "tick 20")
+        yield "last-%d-opening-runs-out" % last, TO_OPENING + (line, "tick 20", "tick 300", "connected")
+        yield "last-%d-confirming-stop" % last, TO_CONFIRMING + (line, "stop")
+        yield "last-%d-confirming-runs-out" % last, TO_CONFIRMING + (line, "tick 20", "tick 300", "connected")
+        for name in ("push", "advise", "tick-20", "stop"):
+            yield "last-%d-busy-%s" % (last, name), STATES["busy"] + (line, CALLS[name], "push 8", "stop")
+        yield "last-%d-many" % last, TO_UP + (line,) + ("push 1", "advise 2") * 4 + (line, "push 3", "tick 100", "stop")
+
+
+def numbers_of_what_is_closed():
+    """A number that the call itself frees is not taken by it."""
+    for push, last in itertools.product(("push 1", "advise 1"), (1, 2, 3)):
+        for interval in (40, 41):
+            yield ("freed-%s-%d-%d" % (push[:-2], interval, last),
+                   ("interval %d" % interval,) + TO_UP
+                   + (push, "tick 20", "advise 2", "last %d" % last, "tick 20", "tick"))
+        yield "freed-%s-lost-%d" % (push[:-2], last), TO_UP + (push, "lost", "last %d" % last, "tick 300", "connected")
+
+
+def full_tables():
+    for place in (0, 1, 15, 16, 30, 31):
+        number = place + 3
+        yield ("full-%d" % place,
+               STATES["full"] + ("tick 5", ok(number), "advise 8", "push 9", "tick 15", "push 7", "tick 20", "tick 20"))
+        yield "full-%d-again" % place, STATES["full"] + ("tick 5", unreadable(number), "push 9", "tick 15", "tick 20")
+
+
+def ways_to_wait():
+    """Each way into Waiting, and how long it lasts."""
+    ways = {"connecting-lost": ("tick", "lost"), "opening-lost": TO_OPENING + ("lost",),
+            "opening-other": TO_OPENING + (open_response(""),), "opening-runs-out": TO_OPENING + ("tick 20",),
+            "confirming-lost": TO_CONFIRMING + ("lost",), "confirming-advisory": TO_CONFIRMING + (advisory(2),),
+            "confirming-runs-out": TO_CONFIRMING + ("tick 20",), "up-lost": TO_UP + ("lost",),
+            "busy-lost": STATES["busy"] + ("lost",), "busy-runs-out": STATES["busy"] + ("tick 20",),
+            "full-lost": STATES["full"] + ("lost",), "full-runs-out": STATES["full"] + ("tick 120",)}
+    for name, lines in ways.items():
+        yield "waits-" + name, lines + ("tick 299", "connected", "tick", "connected", open_response(), "tick 20")
+
+
+def long_life(interval):
+    """Many heartbeats, all answered, and pushes at every distance from them, each with another fate in turn."""
+    model, lines = Replay(), []
+
+    def write(*more):
+        for line in more:
+            lines.append(line)
+            model.take_line(line.encode("ascii"))
+
+    write("interval %d" % interval, *TO_UP)
+    for turn in range(40):
+        write("push %d" % turn, "advise %d" % (turn + 100), "tick %d" % (turn % 7 + 1))
+        fate, session = (ok, advisory, unreadable)[turn % 3], model.session
+        write(*(fate(push.number) for push in session.pushes[turn % 4::4]), "tick %d" % (turn % 5 + 1))
+        if session.session_ok is not None:
+            write((ok, advisory)[turn % 2](session.session_ok))
+    return lines
+
+
+def long_lives():
+    for interval in (21, 22, 37, 40, 100):
+        yield "life-%d" % interval, long_life(interval)
+
+
+GROUPS = (every_call_in_every_state, fates_of_pushes, pushes_about_heartbeats, late_confirming, numbers_taken,
+          numbers_of_what_is_closed, full_tables, ways_to_wait, long_lives)
+
+
+def all_vectors():
+    for group in GROUPS:
+        for name, lines in group():
+            script = script_of(lines)
+            yield Vector(name, script, output_to_text(replay(script)))
+
+
+def vectors_text():
+    return "".join(vector_to_text(vector) + "\n" for vector in all_vectors())
+
+
+if __name__ == "__main__":
+    sys.stdout.write(vectors_text())

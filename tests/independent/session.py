@@ -1,0 +1,277 @@
+"""The provider's session, written from the papers alone, to hold the real code against.
+
+Document 01 ("The session", "Numbers of refusal") and the rulings on the session, against an absolute clock: the session
+numbers the ticks it accepts, and whatever waits is noted with the number of the tick at which it is due. Nothing is
+counted down, so a mistake in a countdown is not made here too.
+
+    session = Session(interval)          session.refusal is 4 where the making was refused
+    session.call("tick")                 the refusal, or 0, and the list of events
+
+The other calls: "connected", "lost", "stop", "push_response" and "push_advisory" with the host's handle, "message" with
+the reader's answer, "unreadable" with a refusal handed in.
+"""
+
+import dataclasses
+import itertools
+from typing import NamedTuple, Optional
+
+from reader_answer import VALUES, kind_name
+
+STATES = WAITING, CONNECTING, OPENING, CONFIRMING, UP, STOPPED = (
+    "waiting", "connecting", "opening", "confirming", "up", "stopped")
+LINKED = (OPENING, CONFIRMING, UP)
+
+(CONNECT, SEND_OPEN_REQUEST, SEND_SESSION_OK, SEND_RESPONSE, SEND_RESPONSE_AGAIN, SEND_ADVISORY, DISCONNECT, IS_UP,
+ ACKNOWLEDGED, ADVISED, TIMED_OUT, LOST, REQUEST_ARRIVED, OUT_OF_PLACE, UNMATCHED, UNREADABLE, ADVISORY_ARRIVED,
+ SEND_ALERT, SEND_GOING_OUT) = range(1, 20)
+TAKE_A_NUMBER = (SEND_OPEN_REQUEST, SEND_SESSION_OK, SEND_RESPONSE, SEND_ADVISORY, SEND_ALERT, SEND_GOING_OUT)
+
+LIST_SHORT, BAD_INTERVAL, IS_STOPPED, DOES_NOT_FIT, TABLE_FULL = range(3, 8)
+READER_REFUSALS = range(8, 15)
+
+PLACES_NEEDED = 40
+LEAST_INTERVAL, MOST_INTERVAL = 21, 6000
+MOST_PUSHES = 32
+GREATEST_NUMBER = 4294967295
+TICKS_TO_ANSWER = 20
+TICKS_TO_WAIT = 300
+
+FITS = {
+    "tick": (WAITING, CONNECTING, OPENING, CONFIRMING, UP),
+    "connected": (CONNECTING,),
+    "lost": (CONNECTING, OPENING, CONFIRMING, UP),
+    "stop": (WAITING, CONNECTING, OPENING, CONFIRMING, UP),
+    "push_response": (UP,),
+    "push_advisory": (UP,),
+    "message": LINKED,
+    "unreadable": LINKED,
+}
+PUSHES = ("push_response", "push_advisory")
+
+# What is said when the session's own timer runs out, and when the host stops the session.
+FAREWELL_OF_TIMER = {OPENING: (SEND_ALERT, SEND_GOING_OUT, DISCONNECT), CONFIRMING: (SEND_GOING_OUT, DISCONNECT),
+                     UP: (SEND_GOING_OUT, DISCONNECT)}
+FAREWELL_OF_STOP = {state: (SEND_GOING_OUT, DISCONNECT) for state in LINKED}
+
+# What is acted on where; all else is out of place.
+ACTING = {
+    (OPENING, "SessionOpenResponse"): "hear_open_response",
+    (CONFIRMING, "Ok"): "hear_ok",
+    (CONFIRMING, "Advisory"): "hear_advisory",
+    (UP, "Ok"): "hear_ok",
+    (UP, "Advisory"): "hear_advisory",
+    (UP, "Request"): "hear_request",
+}
+
+# Meanings in the reader's answer.
+NAMES_A_NUMBER = 1
+STATUSES_THAT_OPEN = (1, 2)  # Ok, RedundantSession
+UNREADABLE_MESSAGE = 1
+
+
+class Event(NamedTuple):
+    code: int
+    number: int = 0
+    detail: int = 0
+
+
+@dataclasses.dataclass
+class Push:
+    number: int
+    handle: int
+    resend_due: Optional[int]  # None where it will not be sent again
+    close_due: int
+
+
+def value_of(answer, name):
+    return answer.values[VALUES.index(name)]
+
+
+def meaning_of(value):
+    """What a value that is there means; one that is not means other, whatever else the answer says of it."""
+    return value.meaning if value.there else 0
+
+
+def number_named(value):
+    return value.number if meaning_of(value) == NAMES_A_NUMBER else None
+
+
+class Session:
+    def __init__(self, interval):
+        refused = not LEAST_INTERVAL <= interval <= MOST_INTERVAL
+        self.refusal = BAD_INTERVAL if refused else 0
+        self.interval = LEAST_INTERVAL if refused else interval
+        self.state = STOPPED if refused else WAITING
+        self.clock = 0  # the number of the last tick that was accepted
+        self.timer_due = None if refused else 1  # the tick at which the session's own timer runs out; None: none runs
+        self.heartbeat_due = None
+        self.last = 0  # the number taken last
+        self.session_ok = None  # the number of the open SessionOk
+        self.pushes = []  # the open ones, in order of acceptance
+        self.held = ()  # the numbers that were open when the call began
+        self.events = []
+
+    def call(self, what, *given, places=PLACES_NEEDED):
+        refusal = self.refusal_of(what, given, places)
+        if refusal:
+            return refusal, []
+        self.held = self.open_numbers()
+        self.events = []
+        getattr(self, what)(*given)
+        return 0, self.events
+
+    def refusal_of(self, what, given, places):
+        if places < PLACES_NEEDED:
+            return LIST_SHORT
+        if self.state == STOPPED:
+            return IS_STOPPED
+        if self.state not in FITS[what] or what == "unreadable" and given[0] not in READER_REFUSALS:
+            return DOES_NOT_FIT
+        if what in PUSHES and len(self.pushes) == MOST_PUSHES:
+            return TABLE_FULL
+        return 0
+
+    def open_numbers(self):
+        numbers = {push.number for push in self.pushes}
+        return numbers if self.session_ok is None else numbers | {self.session_ok}
+
+    # What every call does its work with.
+
+    def tell(self, code, number=0, detail=0):
+        self.events.append(Event(code, number, detail))
+
+    def send(self, code, handle=0):
+        """Tells that a message is to be sent, under the next free number."""
+        after_last = itertools.chain(range(self.last + 1, GREATEST_NUMBER + 1), itertools.count(0))
+        self.last = next(number for number in after_last if number not in self.held)
+        self.tell(code, self.last, handle)
+        return self.last
+
+    def send_session_ok(self):
+        self.session_ok = self.send(SEND_SESSION_OK)
+        self.timer_due = self.clock + TICKS_TO_ANSWER
+        self.heartbeat_due = self.clock + self.interval
+
+    def close_session_ok(self):
+        self.session_ok = self.timer_due = None
+
+    def leave(self, farewell, state=WAITING):
+        """Ends the link or the attempt at one: what is said, and then all that was open is lost."""
+        for code in farewell:
+            (self.send if code in TAKE_A_NUMBER else self.tell)(code)
+        for push in list(self.pushes):
+            self.close(push, LOST)
+        self.session_ok = self.heartbeat_due = None
+        self.state = state
+        self.timer_due = self.clock + TICKS_TO_WAIT if state == WAITING else None
+
+    def close(self, push, code):
+        self.pushes.remove(push)
+        self.tell(code, push.number, push.handle)
+
+    def send_again(self, push):
+        self.tell(SEND_RESPONSE_AGAIN, push.number, push.handle)
+        push.resend_due, push.close_due = None, self.clock + TICKS_TO_ANSWER
+
+    # The calls.
+
+    def tick(self):
+        self.clock += 1
+        if self.clock == self.timer_due:
+            self.run_out()
+            return
+        for push in list(self.pushes):
+            if self.clock == push.resend_due:
+                self.send_again(push)
+            elif self.clock == push.close_due:
+                self.close(push, TIMED_OUT)
+        if self.clock == self.heartbeat_due:
+            self.send_session_ok()
+
+    def run_out(self):
+        if self.state == WAITING:
+            self.tell(CONNECT)
+            self.state, self.timer_due = CONNECTING, None
+        else:
+            self.leave(FAREWELL_OF_TIMER[self.state])
+
+    def connected(self):
+        self.send(SEND_OPEN_REQUEST)
+        self.state, self.timer_due = OPENING, self.clock + TICKS_TO_ANSWER
+
+    def lost(self):
+        self.leave(())
+
+    def stop(self):
+        self.leave(FAREWELL_OF_STOP.get(self.state, ()), STOPPED)
+
+    def push_response(self, handle):
+        number = self.send(SEND_RESPONSE, handle)
+        resend_due = self.clock + TICKS_TO_ANSWER
+        self.pushes.append(Push(number, handle, resend_due, resend_due + TICKS_TO_ANSWER))
+
+    def push_advisory(self, handle):
+        number = self.send(SEND_ADVISORY, handle)
+        self.pushes.append(Push(number, handle, None, self.clock + TICKS_TO_ANSWER))
+
+    def unreadable(self, refusal):
+        self.tell(UNREADABLE, 0, refusal)
+
+    def message(self, answer):
+        act = ACTING.get((self.state, kind_name(answer.kind)))
+        if act:
+            getattr(self, act)(answer)
+        else:
+            self.tell(OUT_OF_PLACE)
+
+    # The kinds that are acted on.
+
+    def hear_open_response(self, answer):
+        if meaning_of(value_of(answer, "status")) in STATUSES_THAT_OPEN:
+            self.state = CONFIRMING
+            self.send_session_ok()
+        else:
+            self.leave((DISCONNECT,))
+
+    def hear_ok(self, answer):
+        number = number_named(value_of(answer, "inResponseTo"))
+        if number not in self.held:
+            self.tell(UNMATCHED)
+        elif number == self.session_ok:
+            self.close_session_ok()
+            if self.state == CONFIRMING:
+                self.state = UP
+                self.tell(IS_UP)
+        else:
+            self.close(self.push_numbered(number), ACKNOWLEDGED)
+
+    def hear_advisory(self, answer):
+        relation = value_of(answer, "inRelationTo")
+        number = number_named(relation)
+        if not relation.there:
+            self.tell(ADVISORY_ARRIVED)
+        elif number not in self.held:
+            self.tell(UNMATCHED)
+        elif number == self.session_ok:
+            self.hear_objection_to_session_ok()
+        else:
+            self.hear_objection(self.push_numbered(number), meaning_of(value_of(answer, "type")))
+
+    def hear_objection_to_session_ok(self):
+        if self.state == CONFIRMING:
+            self.leave((DISCONNECT,))
+        else:
+            self.close_session_ok()
+            self.tell(ADVISORY_ARRIVED)
+
+    def hear_objection(self, push, meaning):
+        if meaning == UNREADABLE_MESSAGE and push.resend_due is not None:
+            self.send_again(push)
+        else:
+            self.close(push, ADVISED)
+
+    def hear_request(self, _):
+        self.tell(REQUEST_ARRIVED)
+
+    def push_numbered(self, number):
+        return next(push for push in self.pushes if push.number == number)

@@ -1,0 +1,201 @@
+"""Tests of the session's model itself, so that the real code is not held against a mistake.
+
+Each raises on a difference. What no script can show is called directly; random scripts must keep the promises that hold
+for every session; and wrong sessions must be noticed by the scripts written by hand, by the random ones and by the
+vectors.
+"""
+
+import copy
+
+from checks import Difference, compare_vectors_written_again, equal
+from reader_answer import KINDS, NOT_THERE, VALUES, Answer, Value
+from replay_examples import REPLAY_BY_HAND
+from replay_script import Replay, replay
+from session import (ACKNOWLEDGED, ADVISED, FITS, LOST, MOST_PUSHES, SEND_ADVISORY, SEND_RESPONSE, SEND_RESPONSE_AGAIN,
+                     STATES, STOPPED, TIMED_OUT, UP, Session)
+from session_cases import script_numbered
+from session_examples import SESSION_BY_HAND
+from session_lines import TO_CONFIRMING, TO_OPENING, TO_UP, script_of
+from session_mistakes import MISTAKES
+from session_sightings import TO_SEE
+from session_vector_text import vector_from_text, vector_to_text
+
+SEED = 911  # the model does not change from run to run, so neither need its tests
+SCRIPTS = 72
+SHORT_SCRIPT = 2000
+
+GIVEN = {"push_response": (7,), "push_advisory": (7,), "unreadable": (9,), "message": (
+    Answer(0, 0, KINDS.index("Request") + 1, (NOT_THERE,) * len(VALUES)),)}
+BEGINNINGS = {"waiting": (), "connecting": ("tick",), "opening": TO_OPENING, "confirming": TO_CONFIRMING, "up": TO_UP,
+              "stopped": TO_UP + ("stop",)}
+
+
+def session_after(lines):
+    run = Replay()
+    run.run(script_of(lines))
+    return run.session
+
+
+def answer_of(kind, **values):
+    return Answer(0, 0, KINDS.index(kind) + 1, tuple(values.get(name, NOT_THERE) for name in VALUES))
+
+
+def test_short_list(state):
+    """3 comes before all else, and nothing is changed."""
+    for what in FITS:
+        for places in (0, 39):
+            session = session_after(BEGINNINGS[state])
+            equal(session.state, state, "the state")
+            before = copy.deepcopy(vars(session))
+            equal(session.call(what, *GIVEN.get(what, ()), places=places), (3, []), what)
+            equal(vars(session), before, "what is left by a refused " + what)
+
+
+def test_refused_making():
+    for interval in (0, 20, 6001, 4294967295):
+        session = Session(interval)
+        equal((session.refusal, session.state, session.interval, session.last, session.session_ok, session.pushes),
+              (4, STOPPED, 21, 0, None, []), "interval %d" % interval)
+        for what in FITS:
+            equal(session.call(what, *GIVEN.get(what, ())), (5, []), what)
+
+
+def test_stop_keeps():
+    session = session_after(("interval 77",) + TO_UP + ("push 1", "stop"))
+    equal((session.interval, session.last), (77, 4), "interval and last number")
+
+
+# After `TO_UP` and a push the Response 3 is open. An answer that no reader gives is taken as it stands: a value that is
+# not there names nothing and means other, whatever else is said of it.
+NAMES_3 = Value(1, 0, 1, 1, 3)
+NAMES_3_NOT_THERE = Value(0, 0, 1, 1, 3)
+HANDED_IN = (
+    (TO_OPENING, answer_of("SessionOpenResponse"), [(7, 0, 0)]),
+    (TO_OPENING, answer_of("SessionOpenResponse", status=Value(0, 0, 0, 1, 0)), [(7, 0, 0)]),
+    (TO_OPENING, answer_of("SessionOpenResponse", status=Value(1, 0, 0, 2, 0)), [(3, 2, 0)]),
+    (TO_UP + ("push 9",), answer_of("Ok"), [(15, 0, 0)]),
+    (TO_UP + ("push 9",), answer_of("Ok", inResponseTo=NAMES_3_NOT_THERE), [(15, 0, 0)]),
+    (TO_UP + ("push 9",), answer_of("Ok", inResponseTo=Value(1, 0, 1, 0, 3)), [(15, 0, 0)]),
+    (TO_UP + ("push 9",), answer_of("Ok", inRelationTo=NAMES_3), [(15, 0, 0)]),
+    (TO_UP + ("push 9",), answer_of("Ok", inResponseTo=NAMES_3), [(9, 3, 9)]),
+    (TO_UP + ("push 9",), answer_of("Advisory", inRelationTo=NAMES_3_NOT_THERE, type=Value(1, 0, 0, 1, 0)),
+     [(17, 0, 0)]),
+    (TO_UP + ("push 9",), answer_of("Advisory", inRelationTo=NAMES_3), [(10, 3, 9)]),
+    (TO_UP + ("push 9",), answer_of("Advisory", inRelationTo=NAMES_3, type=Value(0, 0, 0, 1, 0)), [(10, 3, 9)]),
+    (TO_UP + ("push 9",), answer_of("Advisory", inRelationTo=NAMES_3, type=Value(1, 0, 0, 1, 0)), [(5, 3, 9)]),
+    (TO_UP + ("push 9",), answer_of("Request"), [(13, 0, 0)]),
+    (TO_UP + ("push 9",), answer_of("Response", inResponseTo=NAMES_3), [(14, 0, 0)]),
+)
+
+
+def test_handed_in():
+    for lines, answer, expected in HANDED_IN:
+        refusal, events = session_after(lines).call("message", answer)
+        equal((refusal, [tuple(event) for event in events]), (0, expected), "%s" % (answer,))
+
+
+class Audit(Replay):
+    """Keeps an account of every push from the events alone, and checks what holds after every call."""
+
+    def __init__(self):
+        super().__init__()
+        self.sent_at = {}  # the open pushes by number: the clock at each sending
+
+    def call(self, what, *given):
+        before = copy.deepcopy(vars(self.session)) if what != "tick" else None
+        refusal, events = super().call(what, *given)
+        if refusal and before:
+            equal(vars(self.session), before, "what a refused call leaves")
+        for event in events:
+            self.account(event)
+        if events or what != "tick":
+            self.check_session(events)
+        return refusal, events
+
+    def account(self, event):
+        clock, number = self.session.clock, event.number
+        if event.code in (SEND_RESPONSE, SEND_ADVISORY):
+            if number in self.sent_at:
+                raise Difference("number %d is given twice" % number)
+            self.sent_at[number] = [clock]
+        elif event.code == SEND_RESPONSE_AGAIN:
+            self.sent_at[number].append(clock)
+        elif event.code in (ACKNOWLEDGED, ADVISED, TIMED_OUT, LOST):
+            sent_at = self.sent_at.pop(number)
+            if event.code == TIMED_OUT:
+                equal(clock - sent_at[-1], 20, "ticks before push %d timed out" % number)
+
+    def check_session(self, events):
+        session = self.session
+        numbers = [push.number for push in session.pushes]
+        equal(numbers, list(self.sent_at), "the open pushes, in order of acceptance")
+        if len(events) > MOST_PUSHES + 2 or len(numbers) > MOST_PUSHES or numbers and session.state != UP:
+            raise Difference("%d events, %d pushes open in %s" % (len(events), len(numbers), session.state))
+        if session.session_ok in numbers:
+            raise Difference("the SessionOk has a push's number")
+        for number, sent_at in self.sent_at.items():
+            if len(sent_at) > 2 or session.clock - sent_at[-1] >= 20:
+                raise Difference("push %d, sent at %s, is open at %d" % (number, sent_at, session.clock))
+
+
+def test_promises():
+    for number in range(SCRIPTS):
+        Audit().run(script_numbered(SEED, number))
+
+
+def is_noticed(mistake, scripts):
+    """Whether the wrong session makes a difference on one of the scripts; to stumble is one too."""
+    for script, expected in scripts:
+        run = Replay()
+        run.session_type = mistake
+        try:
+            if run.run(script) != expected:
+                return True
+        except (LookupError, ValueError, StopIteration):
+            return True
+    return False
+
+
+def test_noticed(mistake, scripts):
+    if not is_noticed(mistake, scripts):
+        raise Difference("no script shows it")
+
+
+def short_by_hand():
+    for _, script, expected in SESSION_BY_HAND + REPLAY_BY_HAND:
+        if len(script) < SHORT_SCRIPT and b"tick 1000000" not in script:
+            yield script, expected
+
+
+def random_scripts():
+    for number in range(SCRIPTS):
+        script = script_numbered(SEED, number)
+        yield script, replay(script)
+
+
+def scripts_of(vector_lines):
+    for line in vector_lines:
+        script = vector_from_text(line).script
+        yield script, replay(script)
+
+
+def test_sightings_are_told_apart():
+    equal(len(set(TO_SEE)), len(TO_SEE), "things to see")
+
+
+def all_self_tests(vector_lines):
+    """Names and calls of all self-tests."""
+    for state in STATES:
+        yield "a short event list in %s" % state, lambda state=state: test_short_list(state)
+    yield "refused making", test_refused_making
+    yield "stop keeps", test_stop_keeps
+    yield "answers handed in", test_handed_in
+    yield "promises", test_promises
+    yield "sightings", test_sightings_are_told_apart
+    by_hand, by_chance, by_vectors = list(short_by_hand()), list(random_scripts()), list(scripts_of(vector_lines))
+    for mistake in MISTAKES:
+        yield "by hand: " + mistake.__name__, lambda mistake=mistake: test_noticed(mistake, by_hand)
+        yield "by chance: " + mistake.__name__, lambda mistake=mistake: test_noticed(mistake, by_chance)
+        yield "by vectors: " + mistake.__name__, lambda mistake=mistake: test_noticed(mistake, by_vectors)
+    yield "vectors can be read", (
+        lambda: compare_vectors_written_again(vector_lines, vector_from_text, vector_to_text))

@@ -1,0 +1,180 @@
+"""Counts what comes up while scripts are replayed, so that a comparison can say what it has not tried."""
+
+import collections
+from typing import NamedTuple, Optional, Tuple
+
+from reader_answer import KINDS, kind_name
+from replay_script import LONGEST_LINE, Replay
+from session import (ACKNOWLEDGED, ADVISED, ADVISORY_ARRIVED, CONFIRMING, CONNECT, DISCONNECT, FITS, GREATEST_NUMBER,
+                     LINKED, LOST, MOST_PUSHES, OPENING, READER_REFUSALS, SEND_ADVISORY, SEND_RESPONSE,
+                     SEND_RESPONSE_AGAIN, SEND_SESSION_OK, STATES, TAKE_A_NUMBER, TIMED_OUT, UNREADABLE, UP,
+                     meaning_of, value_of)
+
+CLOSINGS = {ACKNOWLEDGED: "acknowledged", ADVISED: "advised", TIMED_OUT: "timed out", LOST: "lost"}
+ENDED_BY = {"tick": "the timer", "lost": "lost", "stop": "stop"}
+PUSH_NAMES = {SEND_RESPONSE: "Response", SEND_ADVISORY: "Advisory push"}
+
+# Everything that has to come up.
+TO_SEE = (
+    ["state %s" % state for state in STATES] + ["event %d" % code for code in range(1, 20)]
+    + ["refusal %d" % refusal for refusal in (4, 5, 6, 7)]
+    + ["%s in %s" % (what, state) for what in FITS for state in STATES]
+    + ["%s heard in %s" % (kind, state) for kind in KINDS for state in LINKED]
+    + ["refusal %d told" % refusal for refusal in READER_REFUSALS]
+    + ["%s %s" % (name, closing) for name in PUSH_NAMES.values() for closing in CLOSINGS.values()]
+    + ["ended by %s with pushes open" % how for how in ENDED_BY.values()]
+    + ["32 pushes open", "33 events of a tick", "34 events of a call", "number 0 taken", "wrap of the numbers",
+       "a push's number passed over", "the SessionOk's number passed over", "both passed over at once",
+       "the number of a push closed in the same call passed over", "heartbeat in a tick in which pushes are due",
+       "pushes due in a tick that ends the session", "heartbeat while pushes are open",
+       "resent by time", "resent by UnreadableMessage", "acknowledged after a resend", "timed out after a resend by "
+       "UnreadableMessage", "advised after a resend by UnreadableMessage", "UnreadableMessage after a resend by time",
+       "UnreadableMessage for an Advisory push", "heartbeat answered by Ok", "heartbeat answered by Advisory",
+       "opened by RedundantSession", "opening refused", "Advisory for the SessionOk in Confirming", "connected again",
+       "bad line", "line too long", "empty line", "setting given twice", "setting among the calls", "last set",
+       "last line without LF"])
+
+
+class Before(NamedTuple):
+    """What a call begins with."""
+
+    state: str
+    last: int
+    session_ok: Optional[int]
+    pushes: Tuple[int, ...]
+
+
+def lies_between(number, last, taken):
+    """Whether counting on from `last` meets the number before `taken`."""
+    numbers = GREATEST_NUMBER + 1
+    return 1 <= (number - last) % numbers < (taken - last) % numbers
+
+
+class WatchedReplay(Replay):
+    def __init__(self):
+        super().__init__()
+        self.seen = collections.Counter()
+        self.settings = 0
+        self.names = {}  # what the open pushes are, by number
+        self.resent_by = {}  # the open pushes that were sent again, by number: the call that did it
+
+    def call(self, what, *given):
+        session = self.session
+        before = Before(session.state, session.last, session.session_ok, tuple(push.number for push in session.pushes))
+        dues = [push.resend_due or push.close_due for push in session.pushes]
+        refusal, events = super().call(what, *given)
+        self.seen["state " + session.state] += 1
+        self.seen["%s in %s" % (what, before.state)] += 1
+        if refusal:
+            self.seen["refusal %d" % refusal] += 1
+        elif events or what != "tick":
+            self.see_events(before, what, events, session.clock in dues)
+            if what == "message":
+                self.see_message(before, given[0], events)
+        return refusal, events
+
+    def see(self, *things):
+        self.seen.update(things)
+
+    def see_events(self, before, what, events, pushes_due):
+        codes = [event.code for event in events]
+        self.see(*("event %d" % code for code in codes))
+        self.see_numbers(before, events)
+        for event in events:
+            self.see_push(what, event)
+        if LOST in codes:
+            self.see("ended by %s with pushes open" % ENDED_BY[what])
+            if what == "tick" and pushes_due:
+                self.see("pushes due in a tick that ends the session")
+        if what == "tick" and SEND_SESSION_OK in codes:
+            self.see("heartbeat in a tick in which pushes are due" if len(codes) > 1 else
+                     "heartbeat while pushes are open" if before.pushes else "heartbeat with no push open")
+        if len(codes) > MOST_PUSHES:
+            self.see("33 events of a tick" if SEND_SESSION_OK in codes else "34 events of a call")
+        if CONNECT in codes and self.session.clock > 1:
+            self.see("connected again")
+        if len(self.session.pushes) == MOST_PUSHES:
+            self.see("32 pushes open")
+
+    def see_numbers(self, before, events):
+        last = before.last
+        for number in (event.number for event in events if event.code in TAKE_A_NUMBER):
+            pushes = [push for push in before.pushes if lies_between(push, last, number)]
+            of_session_ok = before.session_ok is not None and lies_between(before.session_ok, last, number)
+            still_open = {push.number for push in self.session.pushes}
+            self.seen["a push's number passed over"] += bool(pushes)
+            self.seen["the SessionOk's number passed over"] += of_session_ok
+            self.seen["both passed over at once"] += of_session_ok and bool(pushes)
+            self.seen["the number of a push closed in the same call passed over"] += not still_open.issuperset(pushes)
+            self.seen["wrap of the numbers"] += number < last
+            self.seen["number 0 taken"] += number == 0
+            last = number
+
+    def see_push(self, what, event):
+        number = event.number
+        if event.code in PUSH_NAMES:
+            self.names[number] = PUSH_NAMES[event.code]
+        elif event.code == SEND_RESPONSE_AGAIN:
+            self.resent_by[number] = "time" if what == "tick" else "UnreadableMessage"
+            self.see("resent by " + self.resent_by[number])
+        elif event.code in CLOSINGS:
+            closing, resent_by = CLOSINGS[event.code], self.resent_by.pop(number, None)
+            self.see("%s %s" % (self.names.pop(number), closing))
+            if resent_by:
+                self.see("%s after a resend" % closing, "%s after a resend by %s" % (closing, resent_by))
+        elif event.code == UNREADABLE:
+            self.see("refusal %d told" % event.detail)
+
+    def see_message(self, before, answer, events):
+        self.see("%s heard in %s" % (kind_name(answer.kind), before.state))
+        codes = [event.code for event in events]
+        if not codes:
+            self.see("heartbeat answered by Ok")
+        if codes == [ADVISORY_ARRIVED] and before.session_ok is not None and self.session.session_ok is None:
+            self.see("heartbeat answered by Advisory")
+        if codes == [DISCONNECT]:
+            self.see({OPENING: "opening refused", CONFIRMING: "Advisory for the SessionOk in Confirming"}[before.state])
+        if codes == [SEND_SESSION_OK] and meaning_of(value_of(answer, "status")) == 2:
+            self.see("opened by RedundantSession")
+
+    def take_call(self, line):
+        taken = super().take_call(line)
+        self.seen["last set"] += taken and line.startswith(b"last ")
+        self.seen["bad line"] += not taken
+        self.seen["setting among the calls"] += line.startswith(b"interval ")
+        return taken
+
+    def take_message(self, message):
+        self.see_objection(message)
+        super().take_message(message)
+
+    def see_objection(self, message):
+        """UnreadableMessage for a push that will not be sent again: its event is the same as for other types."""
+        if self.session.state != UP or b":UnreadableMessage<" not in message:
+            return
+        for push in self.session.pushes:
+            if b'inRelationTo="%d"' % push.number in message:
+                if self.names[push.number] == "Advisory push":
+                    self.see("UnreadableMessage for an Advisory push")
+                if self.resent_by.get(push.number) == "time":
+                    self.see("UnreadableMessage after a resend by time")
+
+    def take_line(self, line):
+        self.seen["empty line"] += not line
+        self.seen["line too long"] += len(line) > LONGEST_LINE
+        super().take_line(line)
+
+    def take_setting(self, line):
+        is_setting = super().take_setting(line)
+        self.settings += is_setting
+        self.seen["setting given twice"] += self.settings == 2
+        return is_setting
+
+    def end_settings(self):
+        super().end_settings()
+        if self.session.refusal:
+            self.see("refusal %d" % self.session.refusal)
+
+    def run(self, script):
+        self.seen["last line without LF"] += bool(script) and not script.endswith(b"\n")
+        return super().run(script)
