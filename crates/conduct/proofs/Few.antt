@@ -24,7 +24,7 @@ use Rattle.conduct.proofs.Good.{Good, good}
 use Rattle.conduct.proofs.Moves.{Usual, stays, departs, by-moves}
 use Rattle.conduct.proofs.Said.{remark-short}
 
-told-few : (sweep : Sweep) (ps : List Push) → length (flat (tells sweep) ps) ≤ length ps
+pub told-few : (sweep : Sweep) (ps : List Push) → length (flat (tells sweep) ps) ≤ length ps
 told-few sweep ps = length-flat-le (tells sweep) (λ p. one (fateOf sweep p)) ps
   where
     one : (f : Fate) → length (toldBy f) ≤ 1

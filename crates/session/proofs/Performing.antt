@@ -24,7 +24,7 @@ use Rattle.session.specs.declared.writing.Remarked.{Remarked}
 use Rattle.session.specs.declared.writing.Performed.{Performed}
 use Rattle.session.proofs.Rows.{rows-of, held-of, table-count, rows-few, list-of, events-count}
 use Rattle.session.proofs.Noting.{written-events, written-last, room-for}
-use Rattle.session.proofs.Sweeping.{told-few}
+use Rattle.conduct.proofs.Few.{told-few}
 
 few-partings : (hs : List ℕ) (last : ℕ) (parting : Parting) → length (allNumbered hs last (partingNotes parting)) ≤ 3
 few-partings hs last Nothing = omega arith

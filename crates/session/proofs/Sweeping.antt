@@ -13,23 +13,15 @@ use Rattle.conduct.specs.declared.Event.{Event}
 use Rattle.conduct.specs.declared.Sweep.{Sweep}
 use Rattle.conduct.specs.declared.Fate.{Fate}
 use Rattle.conduct.specs.declared.Fate.the-variants.{Keep, Again, Close}
-use Rattle.conduct.proofs.Lists.{flat-append, length-flat-le}
+use Rattle.conduct.proofs.Lists.{flat-append}
 use Rattle.conduct.proofs.Kept.{kept-few}
+use Rattle.conduct.proofs.Few.{told-few}
 use Rattle.session.specs.Rows.{noPush, tableOf, eventsOf, listOf, Listed}
 use Rattle.session.specs.Written.{sweptOf}
 use Rattle.session.specs.declared.Table.{Table}
 use Rattle.session.specs.declared.Events.{Events}
 use Rattle.session.specs.declared.writing.Swept.{Swept}
 use Rattle.session.proofs.Rows.{table-count, table-more, events-count, listed-count, listed-same, events-more}
-
--- one event at most for each push
-pub told-few : (sweep : Sweep) (ps : List Push) → length (flat (tells sweep) ps) ≤ length ps
-told-few sweep ps = length-flat-le (tells sweep) (λ p. one (fateOf sweep p)) ps
-  where
-    one : (f : Fate) → length (toldBy f) ≤ 1
-    one (Keep p) = omega arith
-    one (Again p e) = omega arith
-    one (Close e) = omega arith
 
 -- ---- what is written of a fate, at the end
 
