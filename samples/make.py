@@ -1,21 +1,34 @@
 #!/usr/bin/env python3
-"""make.py [FOLDER]: writes the sample streams, and what `./box cut '##'` has to print for each.
+"""make.py [FOLDER]: writes the sample inputs of `./box items` and `./box line`, and what both have to print for each.
 
-The expected lines come from the lengths of the records as they are put together here; nothing is cut to find them.
-Without a FOLDER the files go beside this script. The same bytes come out every time. Persons, places and telephone
-numbers are made up.
+The expected lines come from how the records are put together here: their lengths, and the kind or the refusal that each
+is built to have. Nothing is cut or read to find them. Without a FOLDER the files go beside this script. The same bytes
+come out every time. Persons, places and telephone numbers are made up.
 """
 import os
 import sys
+from typing import NamedTuple
 
 BOUNDARY = b'##'
-LONGEST_MESSAGE = 65520
 LENGTH_OF_LAST_SPRING = 65936  # 400 more than 16 bits can tell
 
 STREETS = ['Linden Ave', 'Mill Pond Rd', 'Harbor St', 'County Road 12', 'Old Quarry Ln', 'Second St']
 TOWNS = ['Ashford', 'Bellmont', 'Carver Falls', 'Dunmore']
 NOTES = ['Gate code held by the alarm company.', 'Second entrance from the yard &amp; loading dock.',
          'Occupant uses a wheelchair, unit #2.', 'Dog on the premises.', 'Hydrant across the street.']
+
+
+class Record(NamedTuple):
+    """The bytes of an item, and what its line says behind its number and its bytes."""
+
+    text: bytes
+    kind: str = '-'
+    refusal: int = 0
+    place: int = 0
+
+    def line(self, number):
+        length = '-' if self.refusal == 8 else len(self.text)
+        return f'{number} {length} {self.kind} {self.refusal} {self.place}'
 
 
 def location(n):
@@ -47,28 +60,42 @@ def response_of_length(number, length):
     return response(number, locations, opening + remark + closing)
 
 
-def streams():
+def unclosed(text):
+    """Ends too soon: refused with 9, at its length."""
+    return Record(text, refusal=9, place=len(text))
+
+
+def samples():
     """name, records, bytes waiting"""
-    yield 'short', [b'<Ok inResponseTo="7"/>', b'', b'<SessionOk ID="8"/>', b'<a note="unit #4"/>'], b'<Ok inResp'
-    yield 'last-spring', [response(41, 1), response_of_length(42, LENGTH_OF_LAST_SPRING), response(43, 2)], b''
+    yield 'short', [
+        Record(b'<Ok inResponseTo="7"/>', 'Ok'),
+        Record(b''),
+        Record(b'<SessionOk ID="8"/>', 'SessionOk'),
+        Record(b'<a note="unit #4"/>', refusal=13),
+        unclosed(b'<Request><QueryRequest ID="9"/>'),
+        Record(b'<Request><QueryRequest ID="9"/></Request>', 'Request'),
+    ], b'<Ok inResp'
+    yield 'last-spring', [
+        Record(response(41, 1), 'Response'),
+        Record(response_of_length(42, LENGTH_OF_LAST_SPRING), refusal=8),
+        Record(response(43, 2), 'Response'),
+    ], b''
 
 
 def expected(records, waiting):
-    lines = ['item bytes what']
-    for record in filter(None, records):
-        what = f'{len(record)} message' if len(record) <= LONGEST_MESSAGE else '- too-long'
-        lines.append(f'{len(lines)} {what}')
+    listed = [record for record in records if record.text]
+    lines = ['item bytes kind refusal place', *(record.line(n) for n, record in enumerate(listed, 1))]
     return '\n'.join(lines + [f'end {len(waiting)}', ''])
 
 
 def main():
     folder = sys.argv[1] if len(sys.argv) > 1 else os.path.dirname(os.path.abspath(__file__))
-    for name, records, waiting in streams():
-        stream = b''.join(record + BOUNDARY for record in records) + waiting
+    for name, records, waiting in samples():
+        stream = b''.join(record.text + BOUNDARY for record in records) + waiting
         assert stream.count(BOUNDARY) == len(records), 'a record holds the boundary'
-        with open(os.path.join(folder, name + '.stream'), 'wb') as f:
-            f.write(stream)
-        with open(os.path.join(folder, name + '.cut'), 'w', newline='\n') as f:
+        with open(os.path.join(folder, name + '.input'), 'wb') as f:
+            f.write(BOUNDARY + b'\n' + stream)
+        with open(os.path.join(folder, name + '.items'), 'w', newline='\n') as f:
             f.write(expected(records, waiting))
 
 

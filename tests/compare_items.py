@@ -3,10 +3,11 @@
 
     python3 tests/compare_items.py [--cases N] [--seed S] [--case I] PROGRAM [WORD ..]
 
-PROGRAM and the words after it are the command that runs it, say `tools/x86 run target/bin/items`. Runs the inputs that
-were written by hand with the output due, from a file and bit by bit through a pipe, a stream of several MB, and N
-random streams. A difference is printed with what repeats it. The last line is `N passed, M failed`; the exit status is
-0 only if nothing failed.
+PROGRAM and the words after it are the command that runs it, say `tools/x86 run target/bin/items`. First checks that the
+index of the papers' examples (independent/paper_index.py) names only tests that are there. Runs the inputs that were
+written by hand with the output due and the samples of the papers, from a file and bit by bit through a pipe, a stream
+of several MB, and N random streams. A difference is printed with what repeats it. The last line is `N passed, M
+failed`; the exit status is 0 only if nothing failed.
 """
 
 import os
@@ -18,13 +19,22 @@ sys.path.insert(0, os.path.join(os.path.dirname(os.path.abspath(__file__)), "ind
 from comparison import random_numbers, run_and_count  # noqa: E402
 from listing import listing  # noqa: E402
 from listing_cases import BY_HAND, long_input, random_input  # noqa: E402
+from paper_index import index_tests  # noqa: E402
+from paper_runs import PAPER_LISTINGS  # noqa: E402
 from programs import ProgramComparison  # noqa: E402
 
 LONG_STREAM = 3000000
 
 COMPARISON = ProgramComparison(
     description="Holds the listing program against the independent model.", thing="stream", cases=150, model=listing,
-    by_hand=BY_HAND, stopped=b"stop 1\n")
+    by_hand=BY_HAND + PAPER_LISTINGS, stopped=b"stop 1\n")
+
+
+def run_index(tally):
+    tally.begin("the index of the papers' examples")
+    for name, test in index_tests():
+        tally.run(name, test)
+    tally.end()
 
 
 def run_long_stream(tally, command, seed):
@@ -43,6 +53,7 @@ def random_stream_and_listing(seed, number):
 
 def run_all(arguments, tally):
     if arguments.case is None:
+        run_index(tally)
         COMPARISON.run_by_hand(tally, arguments.command)
         run_long_stream(tally, arguments.command, arguments.seed)
     COMPARISON.run_random(tally, arguments.command, arguments.seed, random_numbers(arguments),

@@ -5,12 +5,14 @@
 
 DRIVER is tests/c/drive_read.c built over the archive: `tools/x86 build DRIVER tests/c/drive_read.c ARCHIVE`.
 Runs the model's own tests, makes the fixed vectors again and compares them with tests/vectors/reader.txt, sends each
-vector, every byte value after many beginnings and then N random messages through the driver, and compares all 28 places
-of each answer. A difference is printed with what repeats it. The random part counts what it met and fails if a refusal,
-a kind or a meaning never came. The last line is `N passed, M failed`; the exit status is 0 only if nothing failed.
+vector, answer lists about their limit, every byte value after many beginnings and then N random messages through the
+driver, and compares all 28 places of each answer. A difference is printed with what repeats it. The random part counts
+what it met and fails if a refusal, a kind or a meaning never came. The last line is `N passed, M failed`; the exit
+status is 0 only if nothing failed.
 """
 
 import collections
+import itertools
 import os
 import random
 import sys
@@ -20,7 +22,8 @@ sys.path.insert(0, os.path.join(os.path.dirname(os.path.abspath(__file__)), "ind
 from checks import Difference  # noqa: E402
 from comparison import DriverComparison  # noqa: E402
 from make_reader_vectors import vectors_text  # noqa: E402
-from read_driver import PLACES_NEEDED, ReadDriver, check_call, check_message  # noqa: E402
+from read_driver import (LISTS_ABOUT_THE_LIMIT, PLACES_NEEDED, ReadDriver, check_call,  # noqa: E402
+                         check_message)
 from reader_answer import VALUES, kind_name  # noqa: E402
 from reader_beginnings import BEGINNINGS, messages_after  # noqa: E402
 from reader_cases import random_case, random_places  # noqa: E402
@@ -82,6 +85,20 @@ def run_beginnings(tally, real):
     tally.end()
 
 
+def run_answer_lists(tally, real):
+    """Refusal 3 on both sides of its limit, for a message that is read, one that is refused and an empty one."""
+    tally.begin("answer lists about their limit")
+    for places, message in itertools.product(LISTS_ABOUT_THE_LIMIT, (b'<Ok inResponseTo="7"/>', b"<Ok>", b"")):
+        tally.run("answer list of %d places, message %r" % (places, message),
+                  lambda: real.run(lambda driver: check_message(driver, message, places)))
+    tally.end()
+
+
+def run_fixed_messages(tally, real):
+    run_answer_lists(tally, real)
+    run_beginnings(tally, real)
+
+
 def run_random_cases(tally, real, seed, numbers):
     tally.begin("random messages")
     met = collections.Counter()
@@ -97,7 +114,7 @@ def run_random_cases(tally, real, seed, numbers):
 COMPARISON = DriverComparison(
     description="Holds ali_read against the independent reader model.", thing="message", cases=12000, start=ReadDriver,
     vectors="reader.txt", vectors_text=vectors_text, self_tests=all_self_tests, run_vector=run_vector,
-    run_exhaustive=run_beginnings, run_random_cases=run_random_cases)
+    run_exhaustive=run_fixed_messages, run_random_cases=run_random_cases)
 
 if __name__ == "__main__":
     sys.exit(COMPARISON.main())

@@ -20,6 +20,7 @@ sys.path.insert(0, os.path.join(os.path.dirname(os.path.abspath(__file__)), "ind
 from checks import Difference, compare_vectors_made_again, vectors_of  # noqa: E402
 from comparison import random_numbers, run_and_count  # noqa: E402
 from make_session_vectors import vectors_text  # noqa: E402
+from paper_runs import PAPER_SCRIPTS  # noqa: E402
 from programs import ProgramComparison, output_of_file  # noqa: E402
 from replay_examples import REPLAY_BY_HAND  # noqa: E402
 from replay_script import replay  # noqa: E402
@@ -34,7 +35,7 @@ LEAST_CALLS = 100000
 
 COMPARISON = ProgramComparison(
     description="Holds the program replay against the independent model of the session.", thing="script", cases=540,
-    model=replay, by_hand=SESSION_BY_HAND + REPLAY_BY_HAND, stopped=b"stop 4\n")
+    model=replay, by_hand=SESSION_BY_HAND + REPLAY_BY_HAND + PAPER_SCRIPTS, stopped=b"stop 4\n")
 
 
 def run_self_tests(tally, lines):

@@ -9,6 +9,7 @@ import zlib
 
 from driver import fill
 from framing import COUNT_CAP, MESSAGE_LIMIT, PLACES_NEEDED, STORE_NEEDED, gather
+from paper_000_tables import BOUNDARY_OF_000
 from vector_text import Call, Vector, vector_to_text
 
 SPELLED = b"ABCDEFG"  # seven different letters, so that bytes laid at a wrong place show
@@ -79,10 +80,11 @@ def in_pieces(stream, size):
 
 
 def examples():
-    """The two short examples of "Cutting the stream" and the stream of "The listing"."""
+    """The short examples of "Cutting the stream", the stream of "The listing", and the boundary of 000 (29 bytes)."""
     yield from every_cut("example-aab", b"aab", b"aaab")
     yield from every_cut("example-aa", b"aa", b"baaa")
     yield from every_cut("example-listing", b"##", b'<Ok inResponseTo="7"/>####<Ok>##abc')
+    yield single("paper-000-7.3-boundary", BOUNDARY_OF_000, b"<SessionOk/>" + BOUNDARY_OF_000)
 
 
 def limits():

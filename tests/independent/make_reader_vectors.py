@@ -7,6 +7,7 @@ examples, whose labels name the case in the papers, are also held against what w
 
 import sys
 
+from paper_samples import paper_samples
 from reader import LONGEST_MESSAGE, LONGEST_PART, MOST_ATTRIBUTES, MOST_LEVELS, read_message
 from reader_examples_read import NO_MESSAGES, UNREADABLE, read_examples
 from reader_examples_refused import attributes, refused_examples
@@ -37,6 +38,11 @@ def listing_items():
     """The two items of the sample in document 01, "The listing"."""
     yield "listing-1", b'<Ok inResponseTo="7"/>'
     yield "listing-2", b"<Ok>"
+
+
+def samples_of_the_papers():
+    for label, message, _ in paper_samples():
+        yield "paper-" + label, message
 
 
 def cut_everywhere():
@@ -105,7 +111,8 @@ def lengths():
             yield "length-%d-%s" % (length, label), form % filled
 
 
-GROUPS = (listing_items, examples, cut_everywhere, dropped_everywhere, levels, many_attributes, parts, lengths)
+GROUPS = (listing_items, examples, samples_of_the_papers, cut_everywhere, dropped_everywhere, levels, many_attributes,
+          parts, lengths)
 
 
 def all_vectors():

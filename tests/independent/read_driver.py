@@ -11,6 +11,7 @@ from reader_vector_text import message_to_text
 
 ANSWER_SHORT = 3
 PLACES_NEEDED = 40
+LISTS_ABOUT_THE_LIMIT = (0, 1, 27, 28, 39, 40, 41, 64)  # places of answer lists
 ALARMS = {
     1: "the answer list from place 28 on, or bytes around it, changed",
     2: "the message, or bytes around it, changed",

@@ -6,6 +6,7 @@ The hand-written examples, brute force over small alphabets and about random mes
 import random
 
 from checks import Difference, compare_vectors_written_again, equal
+from paper_samples import paper_samples
 from reader import first_refusal, read_message, run_machine
 from reader_answer import NUMBERS
 from reader_brute_force import CONTEXTS, check_context, check_dead, check_every_prefix
@@ -28,7 +29,7 @@ def test_refused(message, refusal, place):
     equal(answer.numbers(), (refusal, place) + (0,) * (NUMBERS - 2), "%.80r" % message)
 
 
-def test_read(message, expected):
+def test_answer(message, expected):
     equal(read_message(message), expected, "%.80r" % message)
 
 
@@ -78,7 +79,9 @@ def hand_written():
     for label, message in NO_MESSAGES:
         yield "example " + label, lambda message=message: test_refused(message, 13, 0)
     for label, message, expected in read_examples():
-        yield "example " + label, lambda given=(message, expected): test_read(*given)
+        yield "example " + label, lambda given=(message, expected): test_answer(*given)
+    for label, message, expected in paper_samples():
+        yield "paper " + label, lambda given=(message, expected): test_answer(*given)
 
 
 def by_brute_force():

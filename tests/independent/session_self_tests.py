@@ -183,13 +183,18 @@ def test_sightings_are_told_apart():
     equal(len(set(TO_SEE)), len(TO_SEE), "things to see")
 
 
-def all_self_tests(vector_lines):
-    """Names and calls of all self-tests."""
+def direct_tests():
+    """What no script can show."""
     for state in STATES:
         yield "a short event list in %s" % state, lambda state=state: test_short_list(state)
     yield "refused making", test_refused_making
     yield "stop keeps", test_stop_keeps
     yield "answers handed in", test_handed_in
+
+
+def all_self_tests(vector_lines):
+    """Names and calls of all self-tests."""
+    yield from direct_tests()
     yield "promises", test_promises
     yield "sightings", test_sightings_are_told_apart
     by_hand, by_chance, by_vectors = list(short_by_hand()), list(random_scripts()), list(scripts_of(vector_lines))

@@ -11,7 +11,7 @@ use Rattle.conduct.specs.Numbers.{numbered, allNumbered, nextFree}
 use Rattle.conduct.specs.Pushes.{toldBy, keptBy, keeps, tells, fateOf}
 use Rattle.conduct.specs.Session.{Session, held}
 use Rattle.conduct.specs.Step.{noted, partingNotes, remarkNotes, opens, eventsBy, movedBy, Answered, step}
-use Rattle.conduct.specs.History.{closing, firstSending, history, eventsIn}
+use Rattle.conduct.specs.History.{firstSending, history, eventsIn}
 use Rattle.conduct.specs.Bounds.{sendings, closed, OpenAreCounted}
 use Rattle.conduct.specs.Order.{acceptance}
 use Rattle.conduct.specs.declared.Event.{Event}
@@ -31,9 +31,7 @@ use Rattle.conduct.proofs.Sweeps.{Of, fate-of}
 use Rattle.conduct.proofs.Moves.{usual, Usual, stays, departs, by-moves}
 use Rattle.conduct.proofs.Acceptance.{remark-accepts}
 use Rattle.conduct.proofs.Said.{told-fails, parting-fails, remark-fails}
-
-abbrev isClosed : Event → Bool
-isClosed e = closing (e .code)
+use Rattle.conduct.proofs.Story.{isClosing}
 
 count-append : (test : Event → Bool) (xs ys : List Event)
     → length (those test (xs ++ ys)) ≡ length (those test xs) + length (those test ys)
@@ -51,7 +49,7 @@ sweep-count : (sweep : Sweep) (ps : List Push) → closed (flat (tells sweep) ps
 sweep-count sweep [] = refl
 sweep-count sweep (p ∷ ps) =
     let one = fate-count p (fateOf sweep p) (fate-of sweep p) in
-    let told = count-append isClosed (tells sweep p) (flat (tells sweep) ps) in
+    let told = count-append isClosing (tells sweep p) (flat (tells sweep) ps) in
     let kept = length-append (keeps sweep p) (flat (keeps sweep) ps) in
     omega (arith, sweep-count sweep ps)
 
@@ -68,19 +66,19 @@ parting-count : (s : Session) (parting : Parting)
     × (sendings (allNumbered (held s) (s .last) (partingNotes parting)) ≡ 0)
 parting-count s parting =
     let es = allNumbered (held s) (s .last) (partingNotes parting) in (
-      none-counted isClosed es (parting-fails isClosed (held s) (λ l. refl) parting (s .last)),
+      none-counted isClosing es (parting-fails isClosing (held s) (λ l. refl) parting (s .last)),
       none-counted firstSending es (parting-fails firstSending (held s) (λ l. refl) parting (s .last)),
     )
 
 -- a remark closes none, and sends those that it opens
-sent-open : (s : Session) (what : Pushed) (handle : ℕ) → not (isClosed (numbered (held s) (s .last) (noted (sending what) handle))) ≡ true
+sent-open : (s : Session) (what : Pushed) (handle : ℕ) → not (isClosing (numbered (held s) (s .last) (noted (sending what) handle))) ≡ true
 sent-open s Response handle = refl
 sent-open s Advisory handle = refl
 
 remark-closes : (s : Session) (remark : Remark) → usual remark ≡ true → closed (allNumbered (held s) (s .last) (remarkNotes remark)) ≡ 0
 remark-closes s remark u =
-    none-counted isClosed (allNumbered (held s) (s .last) (remarkNotes remark))
-    (remark-fails isClosed (held s) (s .last) refl (λ r. refl) (sent-open s) remark u)
+    none-counted isClosing (allNumbered (held s) (s .last) (remarkNotes remark))
+    (remark-fails isClosing (held s) (s .last) refl (λ r. refl) (sent-open s) remark u)
 
 remark-opens : (s : Session) (remark : Remark) → usual remark ≡ true
     → sendings (allNumbered (held s) (s .last) (remarkNotes remark)) ≡ length (opens (nextFree (held s) (s .last)) remark)
@@ -99,7 +97,7 @@ move-counts s m (stays to sweep remark stay lost said ok) =
     omega (
       arith,
       length-append (flat (keeps sweep) (s .pushes)) (opens (nextFree (held s) (s .last)) remark),
-      count-append isClosed t r,
+      count-append isClosing t r,
       count-append firstSending t r,
       sweep-count sweep (s .pushes),
       none-sent sweep (s .pushes),
@@ -112,8 +110,8 @@ move-counts s m (departs to parting down few) =
     omega (
       arith,
       length-append (flat (keeps sweeps.Lost) (s .pushes)) [],
-      count-append isClosed p (t ++ []),
-      count-append isClosed t [],
+      count-append isClosing p (t ++ []),
+      count-append isClosing t [],
       count-append firstSending p (t ++ []),
       count-append firstSending t [],
       sweep-count sweeps.Lost (s .pushes),
@@ -134,6 +132,6 @@ open-are-counted s (c ∷ cs) =
       arith,
       step-counts s c,
       open-are-counted (step s c .next) cs,
-      count-append isClosed es rest,
+      count-append isClosing es rest,
       count-append firstSending es rest,
     )

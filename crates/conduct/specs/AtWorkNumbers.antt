@@ -2,7 +2,7 @@
 -- Assumes nothing.
 use mathlib.Core.List.{[], _∷_, _++_}
 use Rattle.conduct.specs.Session.{fresh}
-use Rattle.conduct.specs.Scripts.{ticks, connected, lost, stop, push, advise, answerOk, ok}
+use Rattle.conduct.specs.Scripts.{ticks, connected, lost, stop, push, advise, answerOk, ok, advisory}
 use Rattle.conduct.specs.Scripts.{AllAsDue, example, inOpening, inUp, toOpening}
 use Rattle.conduct.specs.Scripts.{toConfirming, toUp, withLast, goingOn, full, fullSays}
 use Rattle.conduct.specs.Scripts.Line.{event}
@@ -24,6 +24,10 @@ NumbersAtWork =
     example (withLast 4294967295 (fresh 21)) (ticks 1 ∷ connected ∷ []) (event 1 1 0 0 ∷ event 2 2 0 0 ∷ []) 3 0
     ∷ goingOn 21 toOpening 4294967294 (ticks 20 ∷ []) (event 20 18 4294967295 0 ∷ event 20 19 0 0 ∷ event 20 7 0 0 ∷ []) 1 0
     ∷ goingOn 21 toOpening 4294967295 (answerOk ∷ ok 0 ∷ push 7 ∷ []) (event 1 3 0 0 ∷ event 2 8 0 0 ∷ event 3 4 1 7 ∷ []) 5 1
+    ∷  -- and 0 is a number like any other
+    goingOn 21 toOpening 4294967295 (answerOk ∷ advisory 0 ∷ []) (event 1 3 0 0 ∷ event 2 7 0 0 ∷ []) 1 0
+    ∷ goingOn 21 toUp 4294967295 (ticks 21 ∷ ok 0 ∷ ok 0 ∷ ticks 21 ∷ []) (event 21 3 0 0 ∷ event 23 15 0 0 ∷ event 44 3 1 0 ∷ []) 5 0
+    ∷ goingOn 21 toUp 4294967295 (ticks 21 ∷ advisory 0 ∷ ticks 21 ∷ []) (event 21 3 0 0 ∷ event 22 17 0 0 ∷ event 43 3 1 0 ∷ []) 5 0
     ∷ goingOn 21 toConfirming 4294967295 (stop ∷ []) (event 1 19 0 0 ∷ event 1 7 0 0 ∷ []) 6 0
     ∷ goingOn 21 toUp 4294967294 (advise 7 ∷ push 8 ∷ ok 0 ∷ ok 4294967295 ∷ ticks 21 ∷ [])
     (event 1 6 4294967295 7 ∷ event 2 4 0 8 ∷ event 3 9 0 8 ∷ event 4 9 4294967295 7 ∷ event 25 3 1 0 ∷ []) 5 0

@@ -148,16 +148,22 @@ passing =
     ∷ responses fullNumbers
     ∷ [])
 
+-- in each state, with an interval that is not allowed
+abbrev pub inAll : ℕ → List Session
+inAll interval =
+    map (λ (state : State). standing interval state [])
+    (Waiting 1 ∷ Connecting ∷ Opening 0 ∷ Confirming 2 0 ∷ Up (awaited.Ok 2) 0 ∷ Up awaited.Nothing 0 ∷ Stopped ∷ [])
+
 abbrev pub failing : List Session
 failing =
-    standing 20 Connecting []
-    ∷ standing 6001 Connecting []
-    ∷ inStates (Waiting 0 ∷ Waiting 301 ∷ Opening 20 ∷ Confirming 2 20 ∷ Up (awaited.Ok 2) 20 ∷ Up awaited.Nothing 21 ∷ []) []
+    inAll 20 ++ inAll 6001
+    ++ inStates (Waiting 0 ∷ Waiting 301 ∷ Opening 20 ∷ Confirming 2 20 ∷ Up (awaited.Ok 2) 20 ∷ Up awaited.Nothing 21 ∷ []) []
     ++ inStates (Waiting 1 ∷ Connecting ∷ Opening 0 ∷ Confirming 2 0 ∷ Stopped ∷ []) (responses (4 ∷ []))
     ++ upWith
     ((aPush Response 4 0 0 ∷ [])
     ∷ (aPush Response 4 3 0 ∷ [])
     ∷ (aPush Response 4 1 20 ∷ [])
+    ∷ (aPush Response 4 2 20 ∷ [])
     ∷ (aPush Advisory 4 0 0 ∷ [])
     ∷ (aPush Advisory 4 2 0 ∷ [])
     ∷ (aPush Advisory 4 1 20 ∷ [])

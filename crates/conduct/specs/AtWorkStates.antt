@@ -1,12 +1,17 @@
--- Promise 6, the rules at work: waiting, opening, confirming, heartbeats, endings. (proofs/WaitingAtWork, Opening…, Confirming…, Heartbeat…, Endings…)
+-- Promise 6, the rules at work: waiting, opening, confirming, heartbeats, endings. (proofs/WaitingAtWork, Opening…, Confirming…, Heartbeat…, Endings…, Stopped…)
 -- Assumes nothing.
-use mathlib.Core.List.{[], _∷_, _++_}
+use mathlib.Core.Path.{_≡_}
+use mathlib.Core.List.{[], _∷_, _++_, map}
+use Prim.Native.Nat.{ℕ}
 use Rattle.message.specs.declared.Kind.the-variants as kinds
-use Rattle.conduct.specs.Session.{fresh}
+use Rattle.conduct.specs.Session.{Session, fresh}
+use Rattle.conduct.specs.History.{sessionAfter}
+use Rattle.conduct.specs.declared.State.the-variants.{Stopped}
 use Rattle.conduct.specs.Scripts.{ticks, connected, lost, stop, push}
 use Rattle.conduct.specs.Scripts.{advise, unreadable, bare, answerOk, answerRedundantSession, answerOther}
 use Rattle.conduct.specs.Scripts.{ok, unreadableMessage, advisory, advisoryAlone}
-use Rattle.conduct.specs.Scripts.{AllAsDue, example, inConnecting, inOpening, inConfirming, inUp, toUp, goingOn, full, fullSays}
+use Rattle.conduct.specs.Scripts.{AllAsDue, example, inConnecting, inOpening, inConfirming, inUp, toOpening, toUp, goingOn, full, fullSays}
+use Rattle.conduct.specs.Scripts.{Script, callsOf}
 use Rattle.conduct.specs.Scripts.Line.{event, refused}
 
 abbrev pub WaitingAtWork : Type 0
@@ -81,6 +86,9 @@ HeartbeatAtWork =
     (inUp 21 (ticks 20 ∷ []) [] 5 0
     ∷ inUp 21 (ticks 21 ∷ []) (event 25 3 3 0 ∷ []) 5 0
     ∷ inUp 30 (ticks 30 ∷ []) (event 34 3 3 0 ∷ []) 5 0
+    ∷  -- the interval outlasts the link
+    inUp 30 (lost ∷ ticks 300 ∷ connected ∷ answerOk ∷ ok 4 ∷ ticks 30 ∷ [])
+    (event 305 1 0 0 ∷ event 306 2 3 0 ∷ event 307 3 4 0 ∷ event 308 8 0 0 ∷ event 338 3 5 0 ∷ []) 5 0
     ∷  -- Confirming's ticks are among them
     inConfirming 21 (ticks 19 ∷ ok 2 ∷ ticks 2 ∷ []) (event 23 8 0 0 ∷ event 25 3 3 0 ∷ []) 5 0
     ∷  -- an Ok closes it with no event, and once; the next is due 21 ticks after it was sent
@@ -208,3 +216,13 @@ EndingsAtWork =
     ∷ refused 11 5
     ∷ []) 6 0
     ∷ [])
+
+-- what is left of a session that was stopped: its interval, and the last number taken
+abbrev pub stoppedWith : ℕ → Session
+stoppedWith last = record { interval = 30; state = Stopped; pushes = []; last = last }
+
+abbrev pub StoppedAtWork : Type 0
+StoppedAtWork =
+    map (λ (script : Script). sessionAfter (fresh 30) (callsOf script))
+    ((stop ∷ []) ∷ (ticks 1 ∷ stop ∷ []) ∷ (toOpening ++ stop ∷ []) ∷ (toUp ++ push 7 ∷ stop ∷ []) ∷ (toUp ++ lost ∷ ticks 7 ∷ stop ∷ ticks 1 ∷ []) ∷ [])
+    ≡ stoppedWith 0 ∷ stoppedWith 0 ∷ stoppedWith 2 ∷ stoppedWith 4 ∷ stoppedWith 2 ∷ []

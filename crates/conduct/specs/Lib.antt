@@ -16,6 +16,7 @@ pub mod Decided
 pub mod Reached
 pub mod Bounds
 pub mod Order
+pub mod Timers
 pub mod Scripts
 pub mod AtWorkStates
 pub mod AtWorkPushes

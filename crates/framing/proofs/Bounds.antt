@@ -1,7 +1,7 @@
 -- LAWS for the callers of a call, whatever numbers it is given. `answer-short`: a message has at most as many bytes as the limit allows.
--- `taken-within`: no more bytes are taken than the piece has. (`chosen` is of any choice.) Assumes nothing.
+-- `taken-within`: no more bytes are taken than the piece has. Assumes nothing.
 use mathlib.Core.Path.{_≡_, refl}
-use mathlib.Core.Bool.{Bool, true, false, cond}
+use mathlib.Core.Bool.{Bool, true, false}
 use mathlib.Core.List.{List, _++_}
 use Prim.Native.Nat.{ℕ, _-_, _≤_, zero-le}
 use native.Mathlib.Nat.{le-refl}
@@ -9,20 +9,16 @@ use native.Mathlib.Omega.{arith}
 use lib.ListN.{length, take, length-append, length-take}
 use lib.Dec.{leb, eqb}
 use borrow.Author.Tests.{leb-true}
+use Rattle.laws.proofs.Tests.{cond-cases}
 use Rattle.framing.specs.declared.Answer.{Answer}
 use Rattle.framing.specs.declared.Item.{Item}
 use Rattle.framing.specs.Cutting.{refusalOf, itemEnd, cutOver, cutOf, itemOf, itemLength, answered, answerOf}
 
--- what holds of both choices holds of the chosen
-pub chosen : {A : Type 0} (P : A → Type 0) (t : Bool) (x y : A) → (t ≡ true → P x) → (t ≡ false → P y) → P (cond t x y)
-chosen P true x y first second = first refl
-chosen P false x y first second = second refl
-
 item-short : (limit k n : ℕ) → itemLength (itemOf limit k n) ≤ limit
 unfolding itemOf
 item-short limit k n =
-    chosen (λ (i : Item). itemLength i ≤ limit) (eqb n k) _ _ (λ _. zero-le)
-    (λ _. chosen (λ (i : Item). itemLength i ≤ limit) (leb (n - k) limit) _ _ (λ e. leb-true _ _ e) (λ _. zero-le))
+    cond-cases (λ (i : Item). itemLength i ≤ limit) (eqb n k) (λ _. zero-le)
+    (λ _. cond-cases (λ (i : Item). itemLength i ≤ limit) (leb (n - k) limit) (λ e. leb-true _ _ e) (λ _. zero-le))
 
 cut-within : (b p : List ℕ) (m : ℕ) → cutOf b p m .taken ≤ length p
 unfolding cutOf cutOver
@@ -38,14 +34,14 @@ module _ (limit : ℕ) (b s p : List ℕ) (g m : ℕ) where
   pub answer-short : itemLength (answerOf limit b s p g m .item) ≤ limit
   unfolding answerOf answered
   answer-short =
-      chosen (λ (a : Answer). itemLength (a .item) ≤ limit) (eqb (refusalOf limit (length b) (length s) g m) 0) _ _
-      (λ _. chosen (λ (a : Answer). itemLength (a .item) ≤ limit) (cutOf b p m .ended) _ _ (λ _. item-short limit (length b) _)
+      cond-cases (λ (a : Answer). itemLength (a .item) ≤ limit) (eqb (refusalOf limit (length b) (length s) g m) 0)
+      (λ _. cond-cases (λ (a : Answer). itemLength (a .item) ≤ limit) (cutOf b p m .ended) (λ _. item-short limit (length b) _)
       (λ _. zero-le))
       (λ _. zero-le)
 
   pub taken-within : answerOf limit b s p g m .taken ≤ length p
   unfolding answerOf answered
   taken-within =
-      chosen (λ (a : Answer). a .taken ≤ length p) (eqb (refusalOf limit (length b) (length s) g m) 0) _ _
-      (λ _. chosen (λ (a : Answer). a .taken ≤ length p) (cutOf b p m .ended) _ _ (λ _. cut-within b p m) (λ _. cut-within b p m))
+      cond-cases (λ (a : Answer). a .taken ≤ length p) (eqb (refusalOf limit (length b) (length s) g m) 0)
+      (λ _. cond-cases (λ (a : Answer). a .taken ≤ length p) (cutOf b p m .ended) (λ _. cut-within b p m) (λ _. cut-within b p m))
       (λ _. zero-le)

@@ -7,17 +7,14 @@ use Rattle.framing.specs.declared.Answer.{Answer}
 use Rattle.framing.specs.declared.Item.{Item}
 use Rattle.framing.specs.Cutting.{linkLimit, itemNumber, itemLength, answerOf, storeAfter}
 
--- what `gather` promises of its answer and of the store that it leaves
-pub record Gathers (b s p : List ℕ) (g m : ℕ) (answer : Answer) (left : List ℕ) : Type 0 where
-  pub answers : answer ≡ answerOf linkLimit b s p g m
-  pub leaves : left ≡ storeAfter linkLimit b s p g m
+pub gather-once : (boundary store piece : List ℕ) (gathered matched : ℕ) {r r′ : Answer} {left left′ : List ℕ}
+    → r ≡ answerOf linkLimit boundary store piece gathered matched → left ≡ storeAfter linkLimit boundary store piece gathered matched
+    → r′ ≡ answerOf linkLimit boundary store piece gathered matched → left′ ≡ storeAfter linkLimit boundary store piece gathered matched
+    → (r ≡ r′) × (left ≡ left′)
+gather-once boundary store piece gathered matched answers leaves answers′ leaves′ = (one-answer answers answers′, one-answer leaves leaves′)
 
-pub gather-once : {b s p : List ℕ} {g m : ℕ} {answer answer′ : Answer} {left left′ : List ℕ} → Gathers b s p g m answer left
-    → Gathers b s p g m answer′ left′ → (answer ≡ answer′) × (left ≡ left′)
-gather-once one other = (one-answer (one .answers) (other .answers), one-answer (one .leaves) (other .leaves))
+pub item-number-once : (self : Item) {r r′ : ℕ} → r ≡ itemNumber self → r′ ≡ itemNumber self → r ≡ r′
+item-number-once self = one-answer
 
-pub number-once : (i : Item) {r r′ : ℕ} → r ≡ itemNumber i → r′ ≡ itemNumber i → r ≡ r′
-number-once i = one-answer
-
-pub length-once : (i : Item) {r r′ : ℕ} → r ≡ itemLength i → r′ ≡ itemLength i → r ≡ r′
-length-once i = one-answer
+pub item-length-once : (self : Item) {r r′ : ℕ} → r ≡ itemLength self → r′ ≡ itemLength self → r ≡ r′
+item-length-once self = one-answer

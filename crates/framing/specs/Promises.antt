@@ -4,9 +4,9 @@ use Prim.Native.Nat.{ℕ, _+_, _-_, _≤_, _<_}
 use mathlib.Core.Path.{_≡_}
 use mathlib.Core.List.{List, [], _∷_, _++_}
 use lib.ListN.{length, take, drop, getD}
-use Rattle.framing.specs.declared.Item.the-variants.{NotYet}
-use Rattle.framing.specs.Cutting.{linkLimit, refusalOf, answerOf, storeAfter}
-use Rattle.framing.specs.Stream.{joined, Part, CutAt, StreamItem, empty, message, tooLong, itemOfPart, itemsOfParts, Held, fresh, answerTo, heldAfter, Handed, Calls, Lent, Begins, Right}
+use Rattle.framing.specs.declared.Item.the-variants.{NotYet, Empty, Message, TooLong}
+use Rattle.framing.specs.Cutting.{linkLimit, itemNumber, itemLength, refusalOf, answerOf, storeAfter}
+use Rattle.framing.specs.Stream.{joined, Part, CutAt, partsOf, waitingOf, StreamItem, empty, message, tooLong, itemOfPart, itemsOfParts, Held, fresh, answerTo, heldAfter, Handed, Calls, Lent, Begins, Right}
 
 -- A STREAM is cut in one way only. (Cuts)
 abbrev pub CutOnce : Type 0
@@ -19,6 +19,11 @@ abbrev pub Leftmost : Type 0
 Leftmost =
     (b stream q : List ℕ) (qs : List (List ℕ)) (waiting : List ℕ) → CutAt b stream (q ∷ qs) waiting
     → ((x y : List ℕ) → stream ≡ x ++ (b ++ y) → length q ≤ length x + length b) × CutAt b (joined qs ++ waiting) qs waiting
+
+-- That cut is found from left to right: there are no more parts than bytes. (Found)
+abbrev pub CutFound : Type 0
+CutFound =
+    (fuel : ℕ) (b stream : List ℕ) → 1 ≤ length b → length stream ≤ fuel → CutAt b stream (partsOf fuel b stream) (waitingOf fuel b stream)
 
 -- THE LINK. At its limit a store of 65,536 bytes is lent rightly, and the bytes x before a boundary are empty, a message of 1 to 65,520 bytes, or
 -- too long. (Link)
@@ -33,7 +38,13 @@ pub record LinkItem (b x : List ℕ) : Type 0 where
 abbrev pub LinkItems : Type 0
 LinkItems = (b x : List ℕ) → LinkItem b x
 
--- THE CALLS over any list of pieces go on to its end, and of them is refused. (Stream)
+-- The numbers that C sees of items: 0 where none is complete, 1, 2 and 8, and the length of a message. (Link)
+abbrev pub ItemNumbers : Type 0
+ItemNumbers =
+    (itemNumber NotYet ≡ 0) × (itemNumber Empty ≡ 1) × ((n : ℕ) → itemNumber (Message n) ≡ 2) × (itemNumber TooLong ≡ 8)
+    × (itemLength NotYet ≡ 0) × (itemLength Empty ≡ 0) × ((n : ℕ) → itemLength (Message n) ≡ n) × (itemLength TooLong ≡ 0)
+
+-- THE CALLS over any list of pieces go on to its end, and none of them is refused. (Stream)
 abbrev pub CallsGoOn : Type 0
 CallsGoOn =
     (limit : ℕ) (b s : List ℕ) → Lent limit b s
@@ -107,6 +118,13 @@ abbrev pub OwnNumbersAccepted : Type 0
 OwnNumbersAccepted =
     (limit : ℕ) (b s p : List ℕ) (g m : ℕ) → refusalOf limit (length b) (length s) g m ≡ 0
     → refusalOf limit (length b) (length s) (answerOf limit b s p g m .gathered) (answerOf limit b s p g m .matched) ≡ 0
+
+-- ANY TWO CALLS that are not refused, with one boundary, piece and match: whatever their stores hold and however many bytes were gathered before, the same is
+-- taken and the same match is held. So a pair is taken as given. (OwnNumbers)
+abbrev pub TakenAsGiven : Type 0
+TakenAsGiven =
+    (limit : ℕ) (b s s′ p : List ℕ) (g g′ m : ℕ) → refusalOf limit (length b) (length s) g m ≡ 0 → refusalOf limit (length b) (length s′) g′ m ≡ 0
+    → (answerOf limit b s p g m .taken ≡ answerOf limit b s′ p g′ m .taken) × (answerOf limit b s p g m .matched ≡ answerOf limit b s′ p g′ m .matched)
 
 -- ANY CALL that is not refused, whatever numbers it is given: place i of the store holds its byte of the piece where that byte was taken and the
 -- place lies below limit + k; every other place is as it was.

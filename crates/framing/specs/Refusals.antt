@@ -17,7 +17,7 @@ pub record Accepted (limit k n g m : ℕ) : Type 0 where
   pub within : m ≤ g
 
 -- The refusal that is due for a boundary of k bytes, a store of n places and the held numbers g and m; 0 is none. With the link's
--- limit of 65,520 bytes a store needs 65,536 places
+-- limit of 65,520 bytes a store needs 65,536 places.
 pub data Due (limit k n g m : ℕ) : ℕ → Type 0 where
   boundary : (k < 1) ⊎ (16 < k) → Due limit k n g m 1
   store : 1 ≤ k → k ≤ 16 → n < limit + 16 → Due limit k n g m 2

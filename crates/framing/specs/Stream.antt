@@ -1,6 +1,6 @@
 -- The items of a whole stream, said with no matching from byte to byte, and the calls that a caller makes over the pieces of one.
 -- Assumes nothing.
-use Prim.Native.Nat.{ℕ, _+_, _-_, _≤_, _<_, min}
+use Prim.Native.Nat.{ℕ, zero, suc, _+_, _-_, _≤_, _<_, min}
 use mathlib.Core.Path.{_≡_}
 use mathlib.Core.Bool.{cond}
 use mathlib.Core.List.{List, [], _∷_, _++_}
@@ -10,7 +10,7 @@ use Rattle.laws.specs.Bytes.{Ends}
 use Rattle.framing.specs.declared.Answer.{Answer}
 use Rattle.framing.specs.declared.Item.{Item}
 use Rattle.framing.specs.declared.Item.the-variants.{NotYet, Empty, Message, TooLong}
-use Rattle.framing.specs.Cutting.{answerOf, storeAfter}
+use Rattle.framing.specs.Cutting.{itemEnd, answerOf, storeAfter}
 
 -- THE STREAM
 
@@ -37,6 +37,16 @@ pub record CutAt (b stream : List ℕ) (parts : List (List ℕ)) (waiting : List
   pub whole : stream ≡ joined parts ++ waiting
   pub each : EachPart b parts
   pub left : Free b waiting
+
+-- That cut, computed from left to right with at most `fuel` parts: the parts, and the bytes waiting. (proofs/Found)
+unfoldable pub partsOf : ℕ → List ℕ → List ℕ → List (List ℕ)
+partsOf zero b w = []
+partsOf (suc fuel) b w =
+    cond (leb (itemEnd b w) (length w)) (take (itemEnd b w) w ∷ partsOf fuel b (drop (itemEnd b w) w)) []
+
+unfoldable pub waitingOf : ℕ → List ℕ → List ℕ → List ℕ
+waitingOf zero b w = w
+waitingOf (suc fuel) b w = cond (leb (itemEnd b w) (length w)) (waitingOf fuel b (drop (itemEnd b w) w)) w
 
 -- an item with its bytes
 pub data StreamItem : Type 0 where

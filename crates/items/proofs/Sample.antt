@@ -5,7 +5,7 @@ use Prim.Native.Nat.{ℕ}
 use Rattle.laws.specs.Bytes.{sameBytes, endsWith}
 use Rattle.laws.specs.Search.{least}
 use Rattle.framing.specs.Cutting.{itemEnd}
-use Rattle.framing.specs.Stream.{itemOfPart}
+use Rattle.framing.specs.Stream.{itemOfPart, partsOf, waitingOf}
 use Rattle.message.specs.Characters.{twoAt, threeAt, lastTwoAt, fourAt, longAt, digitsAt, numberedAt, standsAt, predefinedAt, referenceAt}
 use Rattle.message.specs.Class.{classOf}
 use Rattle.message.specs.Markup.{utf8At, bangAt, aroundAt, encodingAt, declarationAt}
@@ -17,7 +17,7 @@ use Rattle.message.specs.Messages.{kindOf, attributeCalled, messageAt}
 use Rattle.message.specs.Values.{letterAt, attributeLetterAt, textLetterAt, attributeMeaning, contentMeaning, decimalFrom, decimalOf}
 use Rattle.texts.specs.Fields.{places, decimal}
 use Rattle.items.specs.Lines.{endLine, itemLine, messageLine}
-use Rattle.items.specs.Listing.{boundaryEnd, partsOf, waitingOf, cutLines, streamLines, listing}
+use Rattle.items.specs.Listing.{boundaryEnd, cutLines, streamLines, listing}
 
 -- `##`, LF, `<Ok inResponseTo="7"/>####<Ok>##abc`
 abbrev pub sample : List ℕ

@@ -1,75 +1,22 @@
--- THEOREMS on a whole input. `cut-at`: the parts that the listing goes by, and the bytes waiting, are the stream cut as the framing's `CutAt` says.
--- `turns-list`: the header, what the turns over the pieces of the stream print, and the last line are the listing of the input. `stops`: so are the
--- header and the line `stop 1` where the boundary is refused. Assumes nothing.
-use mathlib.Core.Path.{_≡_, refl, sym, ap, _∙_}
-use mathlib.Core.Bool.{Bool, true, false, cond}
-use mathlib.Core.List.{List, [], _∷_, _++_, append-assoc}
-use Prim.Native.Nat.{ℕ, zero, suc, _≤_, _<_}
+-- THEOREMS on a whole input. `turns-list`: the header, what the turns over the pieces of the stream print, and the last line are the listing of the
+-- input. `stops`: so are the header and the line `stop 1` where the boundary is refused. Assumes nothing.
+use mathlib.Core.Path.{_≡_, refl, ap, _∙_}
+use mathlib.Core.Bool.{true, false}
+use mathlib.Core.List.{List, _∷_, _++_}
+use Prim.Native.Nat.{ℕ, suc, _≤_}
 use native.Mathlib.Omega.{arith}
-use lib.ListN.{length, take, drop, length-take, length-drop, take-append-drop}
-use lib.Dec.{leb}
-use borrow.Author.Tests.{leb-true, leb-false}
-use Rattle.laws.specs.Bytes.{endsWith}
-use Rattle.laws.proofs.Search.{least-passes, least-below}
-use Rattle.laws.proofs.Tails.{ends-of-test, ends-shorter, too-long}
+use lib.ListN.{length, take, drop, length-take}
 use Rattle.framing.specs.declared.Item.{Item}
-use Rattle.framing.specs.Cutting.{linkLimit, itemEnd, answerOf, storeAfter}
-use Rattle.framing.specs.Stream.{joined, CutAt, StreamItem, itemsOfParts, Held, fresh, answerTo, heldAfter, Handed, an-empty, a-message, too-long as handed-too-long, Calls, over, used, cut}
-use Rattle.framing.proofs.Cuts.{none-free, part-first, cut-once}
+use Rattle.framing.specs.Cutting.{linkLimit, answerOf, storeAfter}
+use Rattle.framing.specs.Stream.{joined, StreamItem, itemsOfParts, partsOf, waitingOf, Held, fresh, answerTo, heldAfter, Handed, an-empty, a-message, too-long as handed-too-long, Calls, over, used, cut}
+use Rattle.framing.proofs.Cuts.{cut-once}
+use Rattle.framing.proofs.Found.{cut-found}
 use Rattle.framing.proofs.Link.{link-lent}
 use Rattle.framing.proofs.Stream.{items-of-the-stream}
 use Rattle.items.specs.Lines.{headerLine, stopLine, endLine, lineAfter, numberAfter}
-use Rattle.items.specs.Listing.{boundaryEnd, refusedEnd, partsOf, waitingOf, itemLines, cutLines, streamLines, listing}
+use Rattle.items.specs.Listing.{boundaryEnd, refusedEnd, itemLines, cutLines, streamLines, listing}
 use Rattle.items.specs.Turns.{lineOfTurn, turnOf, printed}
 use Rattle.items.proofs.FirstEnd.{end-found, accepted-end}
-
--- where the first item of w ends, with all that is known of it
-module _ (b w : List ℕ) where
-  ends : ℕ → Bool
-  ends e = endsWith b (take e w)
-
-  passes : itemEnd b w ≤ length w → endsWith b (take (itemEnd b w) w) ≡ true
-  unfolding itemEnd ends
-  passes within = least-passes ends (suc (length w)) (omega arith)
-
-  none-before : (e : ℕ) → e < itemEnd b w → endsWith b (take e w) ≡ false
-  unfolding itemEnd ends
-  none-before e before = least-below ends (suc (length w)) e before
-
-  some-taken : 1 ≤ length b → itemEnd b w ≤ length w → 1 ≤ itemEnd b w
-  some-taken some within =
-      let longer = ends-shorter b (take (itemEnd b w) w) (ends-of-test b (take (itemEnd b w) w) (passes within)) in
-      omega (arith, length-take (itemEnd b w) w, longer)
-
-pub cut-at : (fuel : ℕ) (b w : List ℕ) → 1 ≤ length b → length w ≤ fuel → CutAt b w (partsOf fuel b w) (waitingOf fuel b w)
-unfolding partsOf waitingOf
-cut-at zero b w some short =
-    record {
-      whole = refl;
-      each = tt;
-      left = none-free b w (λ e within. too-long b (take e w) (omega (arith, length-take e w)));
-    }
-cut-at (suc fuel) b w some short = go (leb (itemEnd b w) (length w)) refl (cut-at fuel b (drop (itemEnd b w) w) some)
-  where
-    go : (t : Bool) → leb (itemEnd b w) (length w) ≡ t
-        → (length (drop (itemEnd b w) w) ≤ fuel → CutAt b (drop (itemEnd b w) w) (partsOf fuel b (drop (itemEnd b w) w)) (waitingOf fuel b (drop (itemEnd b w) w)))
-        → CutAt b w (cond t (take (itemEnd b w) w ∷ partsOf fuel b (drop (itemEnd b w) w)) []) (cond t (waitingOf fuel b (drop (itemEnd b w) w)) w)
-    go true is rest =
-        let within = leb-true (itemEnd b w) (length w) is in
-        let after = rest (omega (arith, length-drop (itemEnd b w) w, some-taken b w some within)) in
-        record {
-          whole =
-              sym (take-append-drop (itemEnd b w) w) ∙ ap (λ (l : List ℕ). take (itemEnd b w) w ++ l) (after .whole)
-              ∙ sym (append-assoc (take (itemEnd b w) w) (joined (partsOf fuel b (drop (itemEnd b w) w))) (waitingOf fuel b (drop (itemEnd b w) w)));
-          each = (part-first b w (itemEnd b w) within (passes b w within) (none-before b w), after .each);
-          left = after .left;
-        }
-    go false is rest =
-        record {
-          whole = refl;
-          each = tt;
-          left = none-free b w (λ i within. none-before b w i (omega (arith, leb-false (itemEnd b w) (length w) is)));
-        }
 
 -- the line of an item as it is handed over, and the number after it
 handed-line : {i : Item} {s : List ℕ} {x : StreamItem} → Handed i s x → (n : ℕ) (items : List StreamItem)
@@ -110,7 +57,7 @@ module _ (input : List ℕ) where
       let fits = accepted-end input accepted in
       let size : length boundary ≡ boundaryEnd input = omega (arith, length-take (boundaryEnd input) input, end-found input fits) in
       let d = items-of-the-stream linkLimit boundary s (link-lent boundary s (omega (arith, fits, size)) (omega (arith, fits, size)) roomy) pieces items last calls in
-      let mine = cut-at (length stream) boundary stream (omega (arith, fits, size)) (omega arith) in
+      let mine = cut-found (length stream) boundary stream (omega (arith, fits, size)) (omega arith) in
       let same = cut-once boundary stream (d .parts) (partsOf (length stream) boundary stream) (d .waiting) (waitingOf (length stream) boundary stream) (rw whole at (d .cuts)) mine in
       let lines : printed calls 1 ++ endLine (last .gathered) ≡ cutLines boundary (d .parts) (d .waiting) =
       ap (λ (l : List ℕ). l ++ endLine (last .gathered)) (lines-of-calls calls 1 ∙ ap (itemLines 1) (d .gives))

@@ -11,7 +11,8 @@ use Rattle.message.specs.declared.Message.{Message}
 use Rattle.framing.specs.declared.Item.{Item}
 use Rattle.framing.specs.declared.Item.the-variants.{NotYet, Empty, Message as Whole, TooLong}
 use Rattle.texts.specs.Fields.{space, lineEnd, field, decimal}
-use Rattle.items.specs.Texts.{headerWords, stopWord, endWord, dash, kindName}
+use Rattle.message.specs.Words.{kindName}
+use Rattle.items.specs.Texts.{headerWords, stopWord, endWord, dash}
 
 abbrev pub headerLine : List ℕ
 headerLine = field headerWords lineEnd

@@ -1,12 +1,12 @@
 -- Document 01, "The listing": what the program prints for a whole input. Assumes nothing.
-use Prim.Native.Nat.{ℕ, zero, suc, _+_, min}
+use Prim.Native.Nat.{ℕ, suc, _+_, min}
 use mathlib.Core.Bool.{Bool, cond, _||_}
 use mathlib.Core.List.{List, [], _∷_, _++_}
 use lib.ListN.{length, take, drop, getD}
-use lib.Dec.{ltb, leb, eqb}
+use lib.Dec.{ltb, eqb}
 use Rattle.laws.specs.Search.{least}
-use Rattle.framing.specs.Cutting.{linkLimit, mostBoundary, mostCount, itemEnd}
-use Rattle.framing.specs.Stream.{StreamItem, empty, message, tooLong, itemsOfParts}
+use Rattle.framing.specs.Cutting.{linkLimit, mostBoundary, mostCount}
+use Rattle.framing.specs.Stream.{StreamItem, empty, message, tooLong, itemsOfParts, partsOf, waitingOf}
 use Rattle.texts.specs.Fields.{lineEnd}
 use Rattle.items.specs.Lines.{headerLine, stopLine, endLine, messageLine, tooLongLine}
 
@@ -17,16 +17,6 @@ boundaryEnd input = least (λ i. eqb (getD input i 0) lineEnd) 17
 -- a boundary that is not 1 to 16 bytes is refused; so is the input where no LF stands in its first 17 bytes
 abbrev pub refusedEnd : ℕ → Bool
 refusedEnd end = ltb end 1 || ltb mostBoundary end
-
--- The stream cut at its items' ends, of which there are at most `fuel`: the parts, each with its boundary, and the bytes waiting.
-unfoldable pub partsOf : ℕ → List ℕ → List ℕ → List (List ℕ)
-partsOf zero b w = []
-partsOf (suc fuel) b w =
-    cond (leb (itemEnd b w) (length w)) (take (itemEnd b w) w ∷ partsOf fuel b (drop (itemEnd b w) w)) []
-
-unfoldable pub waitingOf : ℕ → List ℕ → List ℕ → List ℕ
-waitingOf zero b w = w
-waitingOf (suc fuel) b w = cond (leb (itemEnd b w) (length w)) (waitingOf fuel b (drop (itemEnd b w) w)) w
 
 -- the lines of items, from a number on: an empty item has no line and takes no number
 abbrev pub itemLines : ℕ → List StreamItem → List ℕ

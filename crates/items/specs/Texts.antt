@@ -1,9 +1,6 @@
 -- Document 01, "The listing": the words that the lines are made of. Assumes nothing.
 use Prim.Native.Nat.{ℕ}
 use mathlib.Core.List.{List, [], _∷_}
-use Rattle.message.specs.declared.Kind.{Kind}
-use Rattle.message.specs.declared.Kind.the-variants as kinds
-use Rattle.message.specs.Words as words
 
 -- `item bytes kind refusal place`
 abbrev pub headerWords : List ℕ
@@ -21,13 +18,3 @@ endWord = 101 ∷ 110 ∷ 100 ∷ []
 -- `-`, for what is not there
 abbrev pub dash : List ℕ
 dash = 45 ∷ []
-
--- the name of a kind
-abbrev pub kindName : Kind → List ℕ
-kindName kinds.SessionOpenRequest = words.sessionOpenRequest
-kindName kinds.SessionOpenResponse = words.sessionOpenResponse
-kindName kinds.SessionOk = words.sessionOk
-kindName kinds.Ok = words.ok
-kindName kinds.Advisory = words.advisory
-kindName kinds.Request = words.request
-kindName kinds.Response = words.response

@@ -5,7 +5,7 @@ ghost use mathlib.Core.List.{_++_};
 ghost use Prim.Native.Nat.{_+_, _≤_, _<_};
 ghost use lib.ListN.{length, take};
 ghost use Rattle.texts.specs.Fields.{field, decimal};
-ghost use Rattle.items.specs.Texts.{kindName};
+ghost use Rattle.message.specs.Words.{kindName};
 
 // Writes a text and the byte behind it to the places from `at` on, and answers the place behind them.
 pub(crate) fn put(out: &mut [u8], at: usize, text: &[u8], behind: u8) -> usize

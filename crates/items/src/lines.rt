@@ -8,7 +8,8 @@ ghost use Prim.Native.Nat.{_+_, _≤_};
 ghost use lib.ListN.{length, take};
 ghost use Rattle.io.specs.Counts.{Counts};
 ghost use Rattle.texts.specs.Fields.{space, lineEnd, field, decimal};
-ghost use Rattle.items.specs.Texts.{dash, kindName};
+ghost use Rattle.message.specs.Words.{kindName};
+ghost use Rattle.items.specs.Texts.{dash};
 ghost use Rattle.items.specs.Lines.{headerLine, stopLine, endLine, itemLine, messageLine, tooLongLine};
 
 const SPACE: u8 = b' ';

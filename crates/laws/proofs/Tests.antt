@@ -1,8 +1,8 @@
--- Tests, as values of Bool: two that follow from each other are the same, one that cannot pass fails, and none does both; and two together.
--- Assumes nothing.
+-- Tests, as values of Bool: two that follow from each other are the same, one that cannot pass fails, and none does both; two together; and a
+-- choice by one. Assumes nothing.
 use mathlib.Core.Path.{_≡_, refl, sym, _∙_}
 use mathlib.Core.Logic.{_⊎_, inl, inr}
-use mathlib.Core.Bool.{Bool, true, false, not, _&&_, _||_}
+use mathlib.Core.Bool.{Bool, true, false, cond, not, _&&_, _||_}
 use Prim.Native.Nat.{ℕ}
 use native.Mathlib.Omega.{arith}
 
@@ -47,3 +47,9 @@ and-right false b e h = absurd (true-false h refl)
 pub not-both : (a : Bool) {b : Bool} → (a ≡ true → b ≡ false) → not (a && b) ≡ true
 not-both true h = rw (h refl)
 not-both false h = refl
+
+-- ---- a choice: what holds of both ways holds of the one that is taken
+
+pub cond-cases : {A : Type 0} (P : A → Type 0) {x y : A} (t : Bool) → (t ≡ true → P x) → (t ≡ false → P y) → P (cond t x y)
+cond-cases P true p q = p refl
+cond-cases P false p q = q refl

@@ -1,5 +1,5 @@
 -- THEOREMS on `ali_gather`. `refused-writes-nothing`: a refused call leaves the store and the answer list as they were. `refused-exactly`: a number of
--- refusal, or 0, is given exactly when it is due. `gather-once`: its contract has one answer. Assumes nothing.
+-- refusal, or 0, is given exactly when it is due. Assumes nothing.
 use mathlib.Core.Path.{_≡_, refl, sym, _∙_, subst}
 use mathlib.Core.Bool.{Bool, true, false, cond}
 use mathlib.Core.List.{List}
@@ -7,7 +7,6 @@ use mathlib.Core.Logic.{_↔_}
 use Prim.Native.Nat.{ℕ}
 use lib.ListN.{length}
 use borrow.Author.Tests.{ltb-true, ltb-false, lt-ltb, le-ltb, ne-eqb}
-use Rattle.laws.proofs.OneAnswer.{one-answer}
 use Rattle.framing.specs.Cutting.{linkLimit, refusalOf}
 use Rattle.framing.proofs.Refusals as framing-refusals
 use Rattle.framing.proofs.Refusals.{answer-refusal, refused-changes-nothing}
@@ -38,14 +37,3 @@ module _ (b s p : List ℕ) (g m : ℕ) (a : List ℕ) where
       given : (number : ℕ) → DueForC b s g m a number → cond (tooShort a) 3 (refusalOf linkLimit (length b) (length s) g m) ≡ number
       given _ (list short) = rw (lt-ltb (length a) 40 short)
       given _ (framing {number = number} long is) = rw (le-ltb (length a) 40 long) (framing-refusals.due-is linkLimit (length b) (length s) g m number is)
-
--- what `ali_gather` promises of its result, the store and the list
-pub record Gathers (b s p : List ℕ) (g m : ℕ) (a : List ℕ) (result : ℕ) (left answer : List ℕ) : Type 0 where
-  pub returns : result ≡ gatherRefusal b s g m a
-  pub leaves : left ≡ gatherStore b s p g m a
-  pub answers : answer ≡ gatherList b s p g m a
-
-pub gather-once : {b s p : List ℕ} {g m : ℕ} {a : List ℕ} {result result′ : ℕ} {left left′ answer answer′ : List ℕ}
-    → Gathers b s p g m a result left answer → Gathers b s p g m a result′ left′ answer′ → (result ≡ result′) × ((left ≡ left′) × (answer ≡ answer′))
-gather-once one other =
-    (one-answer (one .returns) (other .returns), (one-answer (one .leaves) (other .leaves), one-answer (one .answers) (other .answers)))

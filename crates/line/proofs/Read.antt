@@ -1,8 +1,8 @@
 -- THEOREMS on `ali_read`. `read-refused-writes-nothing`: a refused call leaves the list as it was. `read-refused-exactly`: it returns 3 exactly where the
 -- list has fewer than 40 places, and else 0. `numbers-are-28`: an answer has 28 numbers, whatever was read. `numbers-written`: they are the list's first
 -- 28 places. `places-behind-unchanged`: its places from 28 on are as they were. `refusal-alone`: behind a refusal's number and place all is 0.
--- `absent-alone`: a value that is not there is five zeros. `each-at-its-place`: an example of the order of the 28. `read-once`: its contract
--- has one answer. Assumes nothing.
+-- `absent-alone`: a value that is not there is five zeros. `each-at-its-place`: an example of the order of the 28.
+-- Assumes nothing.
 use mathlib.Core.Path.{_≡_, refl, subst}
 use mathlib.Core.Bool.{Bool, true, false, cond}
 use mathlib.Core.List.{List, [], _∷_}
@@ -11,7 +11,6 @@ use Prim.Native.Nat.{ℕ, _≤_}
 use lib.ListN.{length, take, drop, replicate}
 use lib.Seq.{take-at}
 use borrow.Author.Tests.{ltb-true, ltb-false, lt-ltb, le-ltb}
-use Rattle.laws.proofs.OneAnswer.{one-answer}
 use Rattle.message.specs.Class.{classOf}
 use Rattle.message.specs.Reading.{Reading}
 use Rattle.message.specs.Reading.Reading.{whole, refused}
@@ -88,12 +87,3 @@ module _ (s a : List ℕ) where
       behind : (t : Bool) → drop 28 (cond t a (written (readNumbers (messageOf classOf linkLimits s)) a)) ≡ drop 28 a
       behind true = refl
       behind false = behind-written (readNumbers (messageOf classOf linkLimits s)) a 28 (numbers-are-28 (messageOf classOf linkLimits s))
-
--- what `ali_read` promises of its result and the list
-pub record Reads (s a : List ℕ) (result : ℕ) (answer : List ℕ) : Type 0 where
-  pub returns : result ≡ readReturn a
-  pub answers : answer ≡ readList s a
-
-pub read-once : {s a : List ℕ} {result result′ : ℕ} {answer answer′ : List ℕ}
-    → Reads s a result answer → Reads s a result′ answer′ → (result ≡ result′) × (answer ≡ answer′)
-read-once one other = (one-answer (one .returns) (other .returns), one-answer (one .answers) (other .answers))

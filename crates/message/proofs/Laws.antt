@@ -13,6 +13,7 @@ use lib.Seq.{drop-cons}
 use lib.Dec.{ltb, leb, eqb}
 use borrow.Author.Tests.{lt-ltb, le-ltb, le-leb, lt-leb, eq-eqb, ne-eqb, ltb-true, leb-true}
 use Rattle.laws.proofs.Tests.{true-false, and-last}
+pub use Rattle.laws.proofs.Tests.{cond-cases}
 use Rattle.message.specs.Class.{between}
 use Rattle.message.specs.Reading.{Reading, _>>=_, is, has, one, span, ends, upTo, wordAt, byteAt}
 use Rattle.message.specs.Reading.Reading.{whole, refused}
@@ -59,11 +60,7 @@ pub picked : {T F : Type 0} {x y n a b : ℕ} → (T × (n ≡ a)) ⊎ (F × (n 
 picked {x = x} {y = y} came taken left =
     ⊎-elim (λ w. w .1 ∙ cond-true _ (eq-eqb x y (taken (w .0)))) (λ w. w .1 ∙ cond-false _ (ne-eqb x y (left (w .0)))) came
 
-pub cond-cases : {A : Type 0} (P : A → Type 0) {x y : A} (t : Bool) → (t ≡ true → P x) → (t ≡ false → P y) → P (cond t x y)
-cond-cases P true p q = p refl
-cond-cases P false p q = q refl
-
--- on either way
+-- what holds on either way
 pub cond-both : {A : Type 0} (P : A → Type 0) {x y : A} (t : Bool) → P x → P y → P (cond t x y)
 cond-both P t p q = cond-cases P t (λ e. p) (λ e. q)
 

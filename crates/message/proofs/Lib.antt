@@ -15,7 +15,7 @@
 -- openings of 12 in both ways, `Causes` that what stops the machine is due, and `Blocked` that it does not go past what is due.
 -- The promises. `Nine` proves specs/Nine, `Raising` specs/Raised, `Earliest` specs/Places and specs/Earliest, `Seven`, `Delimited`, `Children` and `NamesStand`
 -- specs/Seven, `Meanings`, `References` and `BeyondAscii` specs/Meanings, and `Alphabet`, `Utf8Ranges` and `Utf8`
--- specs/Alphabet.
+-- specs/Alphabet. The files `…AtWork` and `NumbersForC` compute the examples of specs/Examples.
 pub mod Laws
 pub mod Digits
 pub mod Bytes
@@ -82,3 +82,11 @@ pub mod BeyondAscii
 pub mod Alphabet
 pub mod Utf8Ranges
 pub mod Utf8
+pub mod DeclarationsAtWork
+pub mod MarkupAtWork
+pub mod TagsAtWork
+pub mod CharactersAtWork
+pub mod LimitsAtWork
+pub mod MessagesAtWork
+pub mod NumbersForC
+pub mod OneAnswer

@@ -38,16 +38,7 @@ reads-then next q h = rw q h
 
 -- ---- the names of the kinds
 
-abbrev kindWord : Kind → List ℕ
-kindWord kinds.SessionOpenRequest = words.sessionOpenRequest
-kindWord kinds.SessionOpenResponse = words.sessionOpenResponse
-kindWord kinds.SessionOk = words.sessionOk
-kindWord kinds.Ok = words.ok
-kindWord kinds.Advisory = words.advisory
-kindWord kinds.Request = words.request
-kindWord kinds.Response = words.response
-
-word-kind : (k : Kind) → kindOf (kindWord k) ≡ whole k
+word-kind : (k : Kind) → kindOf (words.kindName k) ≡ whole k
 unfolding kindOf sameBytes
 word-kind kinds.SessionOpenRequest = refl
 word-kind kinds.SessionOpenResponse = refl
@@ -57,16 +48,16 @@ word-kind kinds.Advisory = refl
 word-kind kinds.Request = refl
 word-kind kinds.Response = refl
 
-kind-word : (name : List ℕ) (k : Kind) → kindOf name ≡ whole k → name ≡ kindWord k
+kind-word : (name : List ℕ) (k : Kind) → kindOf name ≡ whole k → name ≡ words.kindName k
 unfolding kindOf
 kind-word name k =
     next kinds.SessionOpenRequest
     (next kinds.SessionOpenResponse (next kinds.SessionOk (next kinds.Ok (next kinds.Advisory (next kinds.Request (next kinds.Response unread))))))
   where
-    next : (k′ : Kind) {others : Reading Kind} → (others ≡ whole k → name ≡ kindWord k) → cond (sameBytes name (kindWord k′)) (whole k′) others ≡ whole k
-        → name ≡ kindWord k
+    next : (k′ : Kind) {others : Reading Kind} → (others ≡ whole k → name ≡ words.kindName k) → cond (sameBytes name (words.kindName k′)) (whole k′) others ≡ whole k
+        → name ≡ words.kindName k
     next k′ further =
-        cond-cases (λ r. r ≡ whole k → name ≡ kindWord k) (sameBytes name (kindWord k′)) (λ t q. same-eq name (kindWord k′) t ∙ ap kindWord (whole-same q)) (λ t. further)
+        cond-cases (λ r. r ≡ whole k → name ≡ words.kindName k) (sameBytes name (words.kindName k′)) (λ t q. same-eq name (words.kindName k′) t ∙ ap words.kindName (whole-same q)) (λ t. further)
 
 -- ---- a reading that is whole or 13
 
@@ -84,8 +75,8 @@ decided-kind name =
     next kinds.SessionOpenRequest
     (next kinds.SessionOpenResponse (next kinds.SessionOk (next kinds.Ok (next kinds.Advisory (next kinds.Request (next kinds.Response thirteen))))))
   where
-    next : (k : Kind) {others : Reading Kind} → Decided others → Decided (cond (sameBytes name (kindWord k)) (whole k) others)
-    next k others = cond-cases Decided (sameBytes name (kindWord k)) (λ t. read k) (λ t. others)
+    next : (k : Kind) {others : Reading Kind} → Decided others → Decided (cond (sameBytes name (words.kindName k)) (whole k) others)
+    next k others = cond-cases Decided (sameBytes name (words.kindName k)) (λ t. read k) (λ t. others)
 
 module _ (s : List ℕ) where
   decided-only : (w : List ℕ) (es : Elements) → Decided (onlyChild s w es)
@@ -175,7 +166,7 @@ module _ (s : List ℕ) (l : Limits) where
     abbrev pub rest : Reading Message
     rest = kindOf (part s (root .tag .name .local) (root .tag .name .end)) >>= messageOfKind classOf l s root
 
-    begun : (k : Kind) → Called s (kindWord k) (root .tag) → isWhole (messageOfKind classOf l s root k) ≡ true → isWhole rest ≡ true
+    begun : (k : Kind) → Called s (words.kindName k) (root .tag) → isWhole (messageOfKind classOf l s root k) ≡ true → isWhole rest ≡ true
     begun k c h = reads-then (messageOfKind classOf l s root) (ap kindOf c ∙ word-kind k) h
 
     decided-of-kind : (k : Kind) → Decided (messageOfKind classOf l s root k)
@@ -205,7 +196,7 @@ module _ (s : List ℕ) (l : Limits) where
           let x = then-whole (messageOfKind classOf l s root) (kindOf (part s (root .tag .name .local) (root .tag .name .end))) m q in
           go (x .0) (kind-word _ (x .0) (x .1)) (x .2)
         where
-          go : (k : Kind) → Called s (kindWord k) (root .tag) → messageOfKind classOf l s root k ≡ whole m → OneOfSeven s root m
+          go : (k : Kind) → Called s (words.kindName k) (root .tag) → messageOfKind classOf l s root k ≡ whole m → OneOfSeven s root m
           go kinds.SessionOpenRequest c h =
               subst (OneOfSeven s root) (whole-same h) (open-request refl c (no-status s) (no-number s) (no-number s) (no-number s) (no-type s))
           go kinds.SessionOpenResponse c h =

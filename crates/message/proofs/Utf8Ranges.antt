@@ -7,7 +7,6 @@ use native.Mathlib.Omega.{arith}
 use native.Mathlib.Decide.{decLt}
 use lib.Dec.{eqb}
 use borrow.Author.Tests.{eqb-true, eq-eqb}
-use Rattle.laws.proofs.Tests.{either}
 use Rattle.message.specs.Characters.{legal, secondOfThree, thirdOfThree, secondOfFour, joined}
 use Rattle.message.proofs.Legal.{legal-low, legal-high, legal-three}
 use Rattle.message.proofs.Laws.{cond-true, cond-cases, both-first, both-second, between-yes}

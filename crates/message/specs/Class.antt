@@ -44,7 +44,7 @@ classTable = classesFrom 0 256
 abbrev pub classIn : List ℕ → ℕ → ℕ
 classIn table x = getD table x 0
 
--- ---- What a reader asks of a byte, by its class. All classes but none are text.
+-- ---- What a reader asks of a byte, by its class. Every class but 0 is text.
 
 module _ (class : ℕ → ℕ) where
   abbrev pub isStart : ℕ → Bool

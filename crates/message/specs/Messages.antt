@@ -76,7 +76,7 @@ noStatus = record { there = false; place = 0; length = 0; status = statuses.Othe
 abbrev pub noType : TypeValue
 noType = record { there = false; place = 0; length = 0; advice = advices.Other }
 
--- the message of a kind, with its values in the order in which INTERFACES counts them
+-- the message of a kind, with its values in the order in which include/ali_link.h counts them
 abbrev pub message : Kind → StatusValue → NumberValue → NumberValue → NumberValue → TypeValue → Message
 message k status identity inResponseTo inRelationTo type =
     record { kind = k; status = status; id = identity; «in_response_to» = inResponseTo; «in_relation_to» = inRelationTo; «advisory_type» = type }

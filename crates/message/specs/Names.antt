@@ -1,4 +1,4 @@
--- Document 01, "The restricted XML": names, of one part or two joined by a colon, and refusal 14 (RULINGS, "14 looks at the longest run").
+-- Document 01, "The restricted XML": names, of one part or two joined by a colon, and refusal 14 (docs/DECISIONS.md, "14 looks at the longest run").
 -- Assumes nothing.
 use Prim.Native.Nat.{ℕ, _+_, _-_}
 use mathlib.Core.Bool.{cond}

@@ -90,7 +90,7 @@ statusOf meaning = cond (means okStatus meaning) statuses.Ok (cond (means redund
 abbrev pub adviceOf : Reading (List ℕ) → Advice
 adviceOf meaning = cond (means unreadableMessage meaning) advices.UnreadableMessage advices.Other
 
--- ---- document 01's and INTERFACES' numbers of the meanings
+-- ---- the numbers of the meanings, as include/ali_link.h has them
 
 abbrev pub numberFlag : Number → ℕ
 numberFlag Nothing = 0

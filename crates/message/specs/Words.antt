@@ -3,6 +3,8 @@ use Prim.Native.Nat.{ℕ}
 use Prim.Native.Char.{code}
 use Prim.Native.String.{String, [] as nothing, _∷_ as _then_}
 use mathlib.Core.List.{List, [], _∷_}
+use Rattle.message.specs.declared.Kind.{Kind}
+use Rattle.message.specs.declared.Kind.the-variants as kinds
 
 -- the bytes of an ASCII text, in which promises write words out
 abbrev pub codes : String → List ℕ
@@ -38,6 +40,16 @@ request = 82 ∷ 101 ∷ 113 ∷ 117 ∷ 101 ∷ 115 ∷ 116 ∷ []
 -- `Response`
 abbrev pub response : List ℕ
 response = 82 ∷ 101 ∷ 115 ∷ 112 ∷ 111 ∷ 110 ∷ 115 ∷ 101 ∷ []
+
+-- the name of a kind
+abbrev pub kindName : Kind → List ℕ
+kindName kinds.SessionOpenRequest = sessionOpenRequest
+kindName kinds.SessionOpenResponse = sessionOpenResponse
+kindName kinds.SessionOk = sessionOk
+kindName kinds.Ok = ok
+kindName kinds.Advisory = advisory
+kindName kinds.Request = request
+kindName kinds.Response = response
 
 -- `QueryRequest`
 abbrev pub queryRequest : List ℕ

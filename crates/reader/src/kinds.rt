@@ -57,8 +57,8 @@ const SESSION_OK: [u8; 9] = [83, 101, 115, 115, 105, 111, 110, 79, 107];
 // `Ok`
 const OK: [u8; 2] = [79, 107];
 
-// `Advisory`
-const ADVISORY: [u8; 8] = [65, 100, 118, 105, 115, 111, 114, 121];
+// `Advisory`, which is the name of that message's only child too
+pub(crate) const ADVISORY: [u8; 8] = [65, 100, 118, 105, 115, 111, 114, 121];
 
 // `Request`
 const REQUEST: [u8; 7] = [82, 101, 113, 117, 101, 115, 116];

@@ -38,9 +38,6 @@ ghost use Rattle.elements.specs.Held.{spanSaid};
 ghost use Rattle.reader.specs.Roots.{nameCalled, onlyCalled, nameEnd, kindNamed, kindSaid, Tells, TellsType, adviceSeen};
 ghost use Rattle.message.specs.declared.Kind.the-variants.{SessionOpenResponse, SessionOk, Ok, Advisory, Request, Response};
 
-// `Advisory`
-const ADVISORY: [u8; 8] = [65, 100, 118, 105, 115, 111, 114, 121];
-
 // `QueryRequest`
 const QUERY_REQUEST: [u8; 12] = [81, 117, 101, 114, 121, 82, 101, 113, 117, 101, 115, 116];
 
@@ -293,7 +290,7 @@ fn ok(s: &[u8], table: &[u8; 256], root: Seen) -> Answer
 fn advisory(s: &[u8], table: &[u8; 256], root: Seen) -> Answer
     ensures { λ r. ⌜ Tells (classIn (now (table .entry))) (now (s .entry)) root Advisory r ⌝ }
 {
-    let child = only_child(s, table, root.inside, &ADVISORY);
+    let child = only_child(s, table, root.inside, &kinds::ADVISORY);
     let e = match child {
         Place::Whole(e) => e,
         Place::Refused(number, place) => return Answer::Refused(number, place),

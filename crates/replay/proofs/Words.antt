@@ -7,7 +7,7 @@ use native.Mathlib.Omega.{arith}
 use lib.Dec.{leb, eqb}
 use lib.ListN.{length, take, drop, length-take}
 use Rattle.laws.proofs.Tails.{same-eq}
-use Rattle.framing.proofs.Bounds.{chosen}
+use Rattle.laws.proofs.Tests.{cond-cases}
 use Rattle.message.specs.declared.Number.{Number}
 use Rattle.message.specs.declared.Number.the-variants.{Nothing, Names}
 use Rattle.message.specs.Values.{numberFlag, numberNamed, decimalOf}
@@ -49,8 +49,8 @@ module _ (x : Number) (other : Line) (none : bytesOfWord other ≤ 0) where
 numbered-short : (line : List ℕ) → bytesOfWord (numberedOf line) ≤ 0
 unfolding numberedOf
 numbered-short line =
-    chosen Short (begins (codes "interval ") line) _ _
-    (λ _. by-number (decimalOf (drop 9 line)) _ (chosen Short (isDecimal (drop 9 line)) _ _ (λ _. zero-le) (λ _. zero-le)) lines.Interval
+    cond-cases Short (begins (codes "interval ") line)
+    (λ _. by-number (decimalOf (drop 9 line)) _ (cond-cases Short (isDecimal (drop 9 line)) (λ _. zero-le) (λ _. zero-le)) lines.Interval
     (λ n. zero-le))
     (λ _. by-number (behind (codes "tick ") line) _
     (by-number (behind (codes "push ") line) _
@@ -60,7 +60,7 @@ numbered-short line =
     _ (λ n. zero-le))
     _ (λ n. zero-le))
     _ (λ n. zero-le))
-    ticksOf (λ n. chosen Short (leb 1 n && leb n 1000000) _ _ (λ _. zero-le) (λ _. zero-le)))
+    ticksOf (λ n. cond-cases Short (leb 1 n && leb n 1000000) (λ _. zero-le) (λ _. zero-le)))
   where
     Short : Line → Type 0
     Short l = bytesOfWord l ≤ 0
@@ -68,12 +68,12 @@ numbered-short line =
 pub word-within : (line : List ℕ) → bytesOfWord (lineOf line) ≤ length line
 unfolding lineOf
 word-within line =
-    chosen Within (eqb (length line) 0) _ _ (λ _. zero-le)
-    (λ _. chosen Within (isWord (codes "tick") line) _ _ (λ _. zero-le)
-    (λ _. chosen Within (isWord (codes "connected") line) _ _ (λ _. zero-le)
-    (λ _. chosen Within (isWord (codes "lost") line) _ _ (λ _. zero-le)
-    (λ _. chosen Within (isWord (codes "stop") line) _ _ (λ _. zero-le)
-    (λ _. chosen Within (begins (codes "message ") line) _ _ (λ is. begins-long (codes "message ") line is)
+    cond-cases Within (eqb (length line) 0) (λ _. zero-le)
+    (λ _. cond-cases Within (isWord (codes "tick") line) (λ _. zero-le)
+    (λ _. cond-cases Within (isWord (codes "connected") line) (λ _. zero-le)
+    (λ _. cond-cases Within (isWord (codes "lost") line) (λ _. zero-le)
+    (λ _. cond-cases Within (isWord (codes "stop") line) (λ _. zero-le)
+    (λ _. cond-cases Within (begins (codes "message ") line) (λ is. begins-long (codes "message ") line is)
     (λ _. omega (arith, numbered-short line)))))))
   where
     Within : Line → Type 0

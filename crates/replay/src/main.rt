@@ -141,7 +141,7 @@ fn take_item(run: Run, item: Item, store: &[u8]) -> Run
     }
 }
 
-// Cuts the piece, up to the end of one line, and does what it says. A boundary of one byte is never begun only.
+// Cuts the piece, up to the end of one line, and does what it says. A boundary of one byte is there or not, so that no match is ever held.
 fn take_next(store: &mut [u8], piece: &[u8], held: Held) -> Turn
     requires { ⌜ 65536 ≤ length (now store) ⌝ }
     ensures within { λ r. ⌜ r .taken ≤ length (now (piece .entry)) ⌝ }

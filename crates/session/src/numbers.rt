@@ -3,12 +3,11 @@ use crate::Session;
 use conduct::Awaited;
 use conduct::State;
 ghost use mathlib.Core.Path.{_≡_};
-ghost use mathlib.Core.List.{_++_};
-ghost use Prim.Native.Nat.{_≤_, _<_};
-ghost use lib.ListN.{length, take};
+ghost use Prim.Native.Nat.{_≤_};
+ghost use lib.ListN.{take};
 ghost use Rattle.conduct.specs.Lists.{among, distinct};
 ghost use Rattle.conduct.specs.Numbers.{nextFree};
-ghost use Rattle.conduct.specs.Session.{awaitedNumbers, sessionOkNumbers, pushNumbers, held as Session·held};
+ghost use Rattle.conduct.specs.Session.{awaitedNumbers, sessionOkNumbers, held as Session·held};
 ghost use Rattle.session.specs.Record.{sessionOf};
 
 // The first `count` of the numbers.

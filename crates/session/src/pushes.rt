@@ -11,7 +11,7 @@ ghost use Rattle.conduct.specs.Sound.{mostSendings, soundPush};
 ghost use Rattle.session.specs.Rows.{isBlank as Rows·isBlank};
 
 // The tick after this age is the 20th.
-const LAST_AGE: u32 = 19;
+pub(crate) const LAST_AGE: u32 = 19;
 
 fn event_of(code: u32, p: Push) -> Event
     ensures { λ r. ⌜ r ≡ eventOf code p ⌝ }

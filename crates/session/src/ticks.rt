@@ -1,4 +1,5 @@
 // Moves: where a call leads, what it means for the pushes and what it says; and those of a tick, and of stop.
+use crate::pushes::LAST_AGE;
 use conduct::Awaited;
 use conduct::Move;
 use conduct::Parting;
@@ -9,9 +10,6 @@ ghost use mathlib.Core.Path.{_≡_};
 ghost use Rattle.conduct.specs.declared.Awaited.the-variants as awaiting;
 ghost use Rattle.conduct.specs.declared.State.the-variants as states;
 ghost use Rattle.conduct.specs.Rules as Rules;
-
-// The tick after this age is the 20th.
-const LAST_AGE: u32 = 19;
 
 pub(crate) fn goes(to: State, remark: Remark) -> Move
     ensures { λ r. ⌜ r ≡ Rules.goes to remark ⌝ }

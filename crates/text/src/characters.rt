@@ -1,7 +1,6 @@
 // Characters of more than one byte, in UTF-8.
 use scan::Character;
 use scan::Place;
-use scan::bytes;
 ghost use mathlib.Core.Path.{_≡_};
 ghost use Prim.Native.Nat.{_<_, _≤_};
 ghost use mathlib.Core.Bool.{true, cond, _&&_};

@@ -52,7 +52,7 @@ pub fn legal(code: u32) -> bool
     code <= LAST_CHARACTER
 }
 
-// What a hexadecimal digit counts; other bytes are not asked for.
+// What a hexadecimal digit counts for; other bytes are not asked for.
 fn digit(b: u8) -> u32
     requires { ⌜ isDigit 16 b ≡ true ⌝ }
     ensures { λ r. ⌜ r ≡ digitOf b ⌝ }

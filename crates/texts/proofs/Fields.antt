@@ -1,6 +1,6 @@
 -- LAWS on what is written of a field, and on numbers in decimal. Where a field has room, `put-front` says what then stands up to its end, and
--- `put-end` where it ends; `put-length` says that the bytes stay as many. `decimal-some`, `decimal-within-20` and `decimal-within-10` bound the
--- digits of a number: any number, below 2^64, and below 2^32. Assumes nothing.
+-- `put-end` where it ends; `put-length` says that the bytes stay as many. `decimal-within-20` bounds the digits of a number below 2^64.
+-- Assumes nothing.
 use mathlib.Core.Path.{_≡_, refl, sym, ap, ap₂, _∙_}
 use mathlib.Core.Bool.{Bool, true, false, cond}
 use mathlib.Core.List.{List, [], _∷_, _++_}
@@ -115,12 +115,5 @@ module _ (n : ℕ) where
   unfolding decimal
   decimal-long = digits-long (places n) n
 
-  pub decimal-some : 1 ≤ length (decimal n)
-  unfolding places
-  decimal-some = omega (arith, decimal-long)
-
   pub decimal-within-20 : n < 18446744073709551616 → length (decimal n) ≤ 20
   decimal-within-20 small = omega (arith, decimal-long, places-within n 19 (omega arith))
-
-  pub decimal-within-10 : n < 4294967296 → length (decimal n) ≤ 10
-  decimal-within-10 small = omega (arith, decimal-long, places-within n 9 (omega arith))

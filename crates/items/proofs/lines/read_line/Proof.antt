@@ -6,7 +6,7 @@ use mathlib.Core.Path.{_≡_}
 use mathlib.Core.List.{List, _++_, append-assoc}
 use Prim.Native.Nat.{ℕ}
 use Rattle.texts.specs.Fields.{space, lineEnd, field, decimal}
-use Rattle.items.specs.Texts.{kindName}
+use Rattle.message.specs.Words.{kindName}
 use Rattle.items.specs.Lines.{itemLine}
 
 -- four runs one behind the other

@@ -1,0 +1,51 @@
+-- Opening lasts 20 ticks, whatever else is called meanwhile. Assumes nothing.
+use mathlib.Core.Path.{_≡_, refl}
+use mathlib.Core.Bool.{true}
+use mathlib.Core.List.{[], _∷_}
+use Prim.Native.Nat.{ℕ, suc, _+_, _<_}
+use native.Mathlib.Omega.{arith}
+use lib.Dec.{ltb}
+use borrow.Author.Tests.{ltb-true}
+use Rattle.message.proofs.Laws.{cond-cases}
+use Rattle.conduct.specs.Session.{Session, stateNumber}
+use Rattle.conduct.specs.Sound.{soundState}
+use Rattle.conduct.specs.Rules.{tick}
+use Rattle.conduct.specs.Step.{step}
+use Rattle.conduct.specs.History.{history, sessionAfter, ticks}
+use Rattle.conduct.specs.Timers.{codesOf, OpeningLasts}
+use Rattle.conduct.specs.declared.State.{State}
+use Rattle.conduct.specs.declared.State.the-variants.{Waiting, Opening}
+use Rattle.conduct.specs.declared.Call.the-variants as calls
+use Rattle.conduct.specs.declared.Move.{Move}
+use Rattle.conduct.proofs.Reached.{reached-is-sound}
+use Rattle.conduct.proofs.Good.{good}
+use Rattle.conduct.proofs.Clocks.{tick-taken}
+use Rattle.conduct.proofs.Lasting.{lasting, untouched, none-open, not-before, over}
+
+opening-on : (interval next a : ℕ) (state : State) → state ≡ Opening a → stateNumber (tick interval next state .to) ≡ 3
+    → tick interval next state .to ≡ Opening (a + 1)
+opening-on interval next a state e =
+    rw e
+    (cond-cases (λ (m : Move). stateNumber (m .to) ≡ 3 → m .to ≡ Opening (a + 1)) (ltb a 19) (λ l n. refl) (λ l n. absurd (omega arith)))
+
+opening-quiet : (t : Session) (a : ℕ) → t .state ≡ Opening a → suc a < 20
+    → (codesOf (step t calls.Tick .events) ≡ []) × (stateNumber (step t calls.Tick .next .state) ≡ 3)
+opening-quiet t a e h = rw (tick-taken t (Opening a) e refl, not-before a h) (rw (untouched t), refl)
+
+opening-last : (t : Session) (a : ℕ) → t .state ≡ Opening a → t .pushes ≡ [] → suc a ≡ 20
+    → (codesOf (step t calls.Tick .events) ≡ 18 ∷ 19 ∷ 7 ∷ []) × (step t calls.Tick .next .state ≡ Waiting 300)
+opening-last t a e none h = rw (tick-taken t (Opening a) e refl, over a h) (rw none, refl)
+
+pub opening-lasts : OpeningLasts
+opening-lasts s cs ok e st =
+    let a = ticks (history s cs) in
+    let t : Session = sessionAfter s cs in
+    let now : t .state ≡ Opening a =
+    lasting 3 (omega arith) (λ (k : ℕ) (state : State). state ≡ Opening k) (λ k state f. rw f) opening-on cs s ok e st
+    in
+    let sound-now : soundState (t .interval) (Opening a) ≡ true = rw now at (good {s = t} (reached-is-sound s cs ok) .state-is) in
+    record {
+      shorter = ltb-true a 20 sound-now;
+      quiet = opening-quiet t a now;
+      last = opening-last t a now (none-open cs s ok now refl);
+    }

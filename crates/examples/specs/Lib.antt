@@ -1,0 +1,2 @@
+-- `Twelve` is the table and its statement.
+pub mod Twelve

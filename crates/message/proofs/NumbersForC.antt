@@ -1,0 +1,6 @@
+-- The numbers that C sees, which antt computes. Assumes nothing.
+use mathlib.Core.Path.{refl}
+use Rattle.message.specs.Examples.{NumbersForC}
+
+pub numbers-for-c : NumbersForC
+numbers-for-c = (refl, refl, refl, refl, refl)
