@@ -2,6 +2,7 @@
 pub mod Among
 pub mod Refused
 pub mod Lists
+pub mod Loops
 pub mod Free
 pub mod Good
 pub mod Sweeps

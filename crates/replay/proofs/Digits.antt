@@ -11,7 +11,7 @@ use lib.Seq.{drop-cons}
 use borrow.Author.Tests.{ne-eqb}
 use Rattle.message.proofs.Laws.{between-yes, between-below, between-above}
 use Rattle.conduct.specs.Lists.{all}
-use Rattle.session.proofs.Loops.{all-not, all-later}
+use Rattle.conduct.proofs.Loops.{all-not, all-later}
 use Rattle.replay.specs.Script.{isDigit, isDecimal}
 
 module _ (line : List ℕ) (i : ℕ) where

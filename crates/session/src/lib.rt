@@ -2,13 +2,11 @@
 // crates/conduct; specs/ says how a session lies in the record below. The record is public, so that a host can keep it where it likes: whatever is in it, every
 // call has an answer.
 mod calls;
+mod consistency;
+mod holding;
 mod lent;
 mod messages;
-mod numbers;
-mod pushes;
-mod sound;
 mod tables;
-mod ticks;
 mod writing;
 
 use conduct::Call;
@@ -18,6 +16,7 @@ use conduct::Pushed;
 use conduct::State;
 use message::Answer;
 use message::Message;
+use rules::sound;
 ghost use mathlib.Core.Path.{_≡_};
 ghost use lib.ListN.{length};
 ghost use Rattle.conduct.specs.declared.Call.the-variants as variants;
@@ -69,10 +68,7 @@ pub struct Made {
 pub fn make(interval: u32) -> Made
     ensures { λ r. ⌜ r ≡ madeOf interval ⌝ }
 {
-    if interval < 21 {
-        return refused_making();
-    }
-    if 6000 < interval {
+    if !sound::is_allowed(interval) {
         return refused_making();
     }
     Made {

@@ -1,7 +1,5 @@
 // Moves of a message, by the table of actions.
 use crate::Session;
-use crate::numbers;
-use crate::ticks;
 use conduct::Action;
 use conduct::Awaited;
 use conduct::Move;
@@ -12,16 +10,14 @@ use conduct::Sweep;
 use message::Advice;
 use message::Message;
 use message::Number;
-use message::NumberValue;
-use message::Status;
-use message::StatusValue;
-use message::TypeValue;
+use rules::heard;
+use rules::moves;
+use rules::numbers;
 ghost use mathlib.Core.Path.{_≡_};
 ghost use Prim.Native.Nat.{_<_};
 ghost use mathlib.Core.Bool.{true};
-ghost use Rattle.conduct.specs.Lists.{among};
 ghost use Rattle.conduct.specs.Table.{actionAt, actionOf};
-ghost use Rattle.conduct.specs.Session.{isLinked, awaitedNumbers, held as Session·held};
+ghost use Rattle.conduct.specs.Session.{isLinked, held as Session·held};
 ghost use Rattle.conduct.specs.Rules as Rules;
 ghost use Rattle.session.specs.Record.{sessionOf};
 
@@ -63,59 +59,6 @@ pub(crate) fn action_at(row: usize, column: usize) -> Action
     ACTIONS[row][column]
 }
 
-fn named_by(value: NumberValue) -> Number
-    ensures { λ r. ⌜ r ≡ Rules.namedBy value ⌝ }
-{
-    if value.there {
-        return value.number;
-    }
-    Number::Nothing
-}
-
-fn status_by(value: StatusValue) -> Status
-    ensures { λ r. ⌜ r ≡ Rules.statusBy value ⌝ }
-{
-    if value.there {
-        return value.status;
-    }
-    Status::Other
-}
-
-fn advice_by(value: TypeValue) -> Advice
-    ensures { λ r. ⌜ r ≡ Rules.adviceBy value ⌝ }
-{
-    if value.there {
-        return value.advice;
-    }
-    Advice::Other
-}
-
-// The answer to the SessionOpenRequest.
-fn answered(next: u32, status: Status) -> Move
-    ensures { λ r. ⌜ r ≡ Rules.answered next status ⌝ }
-{
-    match status {
-        Status::Ok => ticks::goes(State::Confirming(next, 0), Remark::Note(3, 0)),
-        Status::RedundantSession => ticks::goes(State::Confirming(next, 0), Remark::Note(3, 0)),
-        Status::Other => ticks::waits(Parting::Disconnect),
-    }
-}
-
-fn unmatched(state: State) -> Move
-    ensures { λ r. ⌜ r ≡ Rules.unmatched state ⌝ }
-{
-    ticks::goes(state, Remark::Note(15, 0))
-}
-
-fn is_awaited(awaited: Awaited, number: u32) -> bool
-    ensures { λ r. ⌜ r ≡ among number (awaitedNumbers awaited) ⌝ }
-{
-    match awaited {
-        Awaited::Nothing => false,
-        Awaited::Ok(n) => number == n,
-    }
-}
-
 // An Ok that names n. Here and below, `held` are the numbers that the session holds.
 fn ok_naming(s: Session, held: &[u32], n: u32) -> Move
     requires { ⌜ now held ≡ Session·held (sessionOf s) ⌝ }
@@ -123,26 +66,26 @@ fn ok_naming(s: Session, held: &[u32], n: u32) -> Move
 {
     let state = s.state;
     match state {
-        State::Waiting(_) => unmatched(state),
-        State::Connecting => unmatched(state),
-        State::Opening(_) => unmatched(state),
+        State::Waiting(_) => moves::unmatched(state),
+        State::Connecting => moves::unmatched(state),
+        State::Opening(_) => moves::unmatched(state),
         State::Confirming(number, age) => {
             if n == number {
-                ticks::goes(State::Up(Awaited::Nothing, age), Remark::Note(8, 0))
+                moves::goes(State::Up(Awaited::Nothing, age), Remark::Note(8, 0))
             } else {
-                unmatched(state)
+                moves::unmatched(state)
             }
         }
         State::Up(awaited, age) => {
-            if is_awaited(awaited, n) {
-                ticks::goes(State::Up(Awaited::Nothing, age), Remark::Nothing)
+            if heard::is_awaited(awaited, n) {
+                moves::goes(State::Up(Awaited::Nothing, age), Remark::Nothing)
             } else if numbers::is_among(held, n) {
-                ticks::touches(state, Sweep::Acknowledged(n))
+                moves::touches(state, Sweep::Acknowledged(n))
             } else {
-                unmatched(state)
+                moves::unmatched(state)
             }
         }
-        State::Stopped => unmatched(state),
+        State::Stopped => moves::unmatched(state),
     }
 }
 
@@ -153,18 +96,9 @@ fn acknowledged(s: Session, held: &[u32], number: Number) -> Move
     match number {
         Number::Nothing => {
             let state = s.state;
-            unmatched(state)
+            moves::unmatched(state)
         }
         Number::Names(n) => ok_naming(s, held, n),
-    }
-}
-
-fn advises(advice: Advice, n: u32) -> Sweep
-    ensures { λ r. ⌜ r ≡ Rules.advises advice n ⌝ }
-{
-    match advice {
-        Advice::UnreadableMessage => Sweep::Unreadable(n),
-        Advice::Other => Sweep::Advised(n),
     }
 }
 
@@ -175,26 +109,26 @@ fn advisory_naming(s: Session, held: &[u32], advice: Advice, n: u32) -> Move
 {
     let state = s.state;
     match state {
-        State::Waiting(_) => unmatched(state),
-        State::Connecting => unmatched(state),
-        State::Opening(_) => unmatched(state),
+        State::Waiting(_) => moves::unmatched(state),
+        State::Connecting => moves::unmatched(state),
+        State::Opening(_) => moves::unmatched(state),
         State::Confirming(number, _) => {
             if n == number {
-                ticks::waits(Parting::Disconnect)
+                moves::waits(Parting::Disconnect)
             } else {
-                unmatched(state)
+                moves::unmatched(state)
             }
         }
         State::Up(awaited, age) => {
-            if is_awaited(awaited, n) {
-                ticks::goes(State::Up(Awaited::Nothing, age), Remark::Note(17, 0))
+            if heard::is_awaited(awaited, n) {
+                moves::goes(State::Up(Awaited::Nothing, age), Remark::Note(17, 0))
             } else if numbers::is_among(held, n) {
-                ticks::touches(state, advises(advice, n))
+                moves::touches(state, heard::advises(advice, n))
             } else {
-                unmatched(state)
+                moves::unmatched(state)
             }
         }
-        State::Stopped => unmatched(state),
+        State::Stopped => moves::unmatched(state),
     }
 }
 
@@ -205,7 +139,7 @@ fn advised_about(s: Session, held: &[u32], advice: Advice, number: Number) -> Mo
     match number {
         Number::Nothing => {
             let state = s.state;
-            unmatched(state)
+            moves::unmatched(state)
         }
         Number::Names(n) => advisory_naming(s, held, advice, n),
     }
@@ -218,10 +152,10 @@ fn advised(s: Session, held: &[u32], m: Message) -> Move
     let value = m.in_relation_to;
     if value.there {
         let number = value.number;
-        return advised_about(s, held, advice_by(m.advisory_type), number);
+        return advised_about(s, held, heard::advice_by(m.advisory_type), number);
     }
     let state = s.state;
-    ticks::goes(state, Remark::Note(17, 0))
+    moves::goes(state, Remark::Note(17, 0))
 }
 
 fn acted(s: Session, held: &[u32], m: Message, action: Action) -> Move
@@ -230,11 +164,14 @@ fn acted(s: Session, held: &[u32], m: Message, action: Action) -> Move
 {
     let state = s.state;
     match action {
-        Action::OutOfPlace => ticks::goes(state, Remark::Note(14, 0)),
-        Action::Answer => answered(numbers::next_free(held, s.last), status_by(m.status)),
-        Action::Acknowledge => acknowledged(s, held, named_by(m.in_response_to)),
+        Action::OutOfPlace => moves::goes(state, Remark::Note(14, 0)),
+        Action::Answer => moves::answered(
+            numbers::next_free(held, s.last),
+            heard::status_by(m.status),
+        ),
+        Action::Acknowledge => acknowledged(s, held, heard::named_by(m.in_response_to)),
         Action::Advise => advised(s, held, m),
-        Action::Request => ticks::goes(state, Remark::Note(13, 0)),
+        Action::Request => moves::goes(state, Remark::Note(13, 0)),
     }
 }
 

@@ -1,8 +1,8 @@
 // The table of open pushes.
 use crate::Table;
-use crate::pushes;
 use conduct::Push;
 use conduct::Pushed;
+use rules::pushes;
 ghost use mathlib.Core.Path.{_≡_};
 ghost use mathlib.Core.List.{_++_, _∷_, []};
 ghost use Prim.Native.Nat.{_≤_, _<_};
@@ -29,6 +29,26 @@ pub(crate) fn empty() -> Table
     }
 }
 
+// A row behind the count.
+fn is_blank(p: Push) -> bool
+    ensures { λ r. ⌜ r ≡ Rows·isBlank p ⌝ }
+{
+    let what = p.what;
+    if !pushes::is_response(what) {
+        return false;
+    }
+    if p.number != 0 {
+        return false;
+    }
+    if p.handle != 0 {
+        return false;
+    }
+    if p.sent != 0 {
+        return false;
+    }
+    p.age == 0
+}
+
 impl Table {
     // One push more, at the end.
     pub(crate) fn add(mut self, p: Push) -> Table
@@ -50,7 +70,7 @@ impl Table {
         let rows = self.rows;
         let mut i = self.count;
         while i < MOST {
-            if !pushes::is_blank(rows[i]) {
+            if !is_blank(rows[i]) {
                 return false;
             }
             i += 1;

@@ -2,8 +2,6 @@
 use crate::Events;
 use crate::Session;
 use crate::Table;
-use crate::numbers;
-use crate::pushes;
 use crate::tables;
 use conduct::Event;
 use conduct::Fate;
@@ -13,12 +11,13 @@ use conduct::Push;
 use conduct::Pushed;
 use conduct::Remark;
 use conduct::Sweep;
+use rules::numbers;
+use rules::pushes;
 ghost use mathlib.Core.Path.{_≡_};
 ghost use mathlib.Core.List.{_++_, _∷_, []};
 ghost use Prim.Native.Nat.{_+_, _≤_, _<_};
 ghost use lib.ListN.{length};
 ghost use Rattle.conduct.specs.Codes.{sending as Codes·sending};
-ghost use Rattle.conduct.specs.Numbers.{takesNumber};
 ghost use Rattle.conduct.specs.Session.{held as Session·held};
 ghost use Rattle.conduct.specs.Step.{noted as note, partingNotes, opens, movedBy, eventsBy};
 ghost use Rattle.session.specs.Rows.{Held, rowsOf, Listed, eventsOf, listOf};
@@ -77,28 +76,6 @@ impl Events {
     }
 }
 
-// The send events but 5.
-fn takes_number(code: u32) -> bool
-    ensures { λ r. ⌜ r ≡ takesNumber code ⌝ }
-{
-    if code == 2 {
-        return true;
-    }
-    if code == 3 {
-        return true;
-    }
-    if code == 4 {
-        return true;
-    }
-    if code == 6 {
-        return true;
-    }
-    if code == 18 {
-        return true;
-    }
-    code == 19
-}
-
 // A note with its number, at the end of the events.
 fn noted(held: &[u32], w: Written, code: u32, detail: u32) -> Written
     requires { ⌜ (Listed (w .events)) × (w .events .count < 40) ⌝ }
@@ -106,7 +83,7 @@ fn noted(held: &[u32], w: Written, code: u32, detail: u32) -> Written
 {
     let events = w.events;
     let last = w.last;
-    if takes_number(code) {
+    if numbers::takes_number(code) {
         let number = numbers::next_free(held, last);
         let e = Event {
             code,

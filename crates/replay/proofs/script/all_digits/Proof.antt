@@ -8,7 +8,7 @@ use native.Mathlib.Omega.{arith}
 use lib.ListN.{length, drop}
 use denote.Ref.{now}
 use Rattle.conduct.specs.Lists.{all}
-use Rattle.session.proofs.Loops.{all-end}
+use Rattle.conduct.proofs.Loops.{all-end}
 use Rattle.replay.specs.Script.{isDigit}
 use Rattle.replay.proofs.Digits.{below-digits, above-digits, next-digit}
 

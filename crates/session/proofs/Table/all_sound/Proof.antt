@@ -11,7 +11,7 @@ use Rattle.conduct.specs.Lists.{all}
 use Rattle.conduct.specs.Sound.{soundPush}
 use Rattle.session.specs.Rows.{noPush, rowsOf}
 use Rattle.session.proofs.Rows.{unmapped, rows-count}
-use Rattle.session.proofs.Loops.{all-not, all-later, all-end}
+use Rattle.conduct.proofs.Loops.{all-not, all-later, all-end}
 
 abbrev Inv-loop : tie.InvT-loop
 Inv-loop rows count i₀ i = all soundPush (take count rows) ≡ all soundPush (drop i (take count rows))

@@ -10,7 +10,7 @@ use borrow.Author.Tests.{not-true, not-false}
 use Rattle.conduct.specs.Lists.{all}
 use Rattle.session.specs.Rows.{noPush, isBlank}
 use Rattle.session.proofs.Rows.{unmapped}
-use Rattle.session.proofs.Loops.{all-not, all-later, all-end}
+use Rattle.conduct.proofs.Loops.{all-not, all-later, all-end}
 
 abbrev Inv-loop : tie.InvT-loop
 Inv-loop rows i₀ i = all isBlank (drop i₀ rows) ≡ all isBlank (drop i rows)

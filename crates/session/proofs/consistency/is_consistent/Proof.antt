@@ -1,0 +1,161 @@
+-- `session::consistency::is_consistent` meets its contract: each test that passes leaves what is still to be tested. Assumes nothing.
+use borrow.Author.Needs.{needs}
+use Rattle.session.proofs.consistency.is_consistent.Statement.{statement}
+use Rattle.session.proofs.consistency.is_consistent.Tie as tie
+use mathlib.Core.Path.{_≡_, sym, ap, _∙_}
+use mathlib.Core.Bool.{Bool, _&&_, _||_}
+use Prim.Native.Nat.{ℕ, _≤_}
+use native.Mathlib.Omega.{arith}
+use lib.Dec.{leb, eqb}
+use lib.ListN.{length, drop}
+use lib.Seq.{length-take-le}
+use borrow.Author.Tests.{lt-leb, le-leb, not-true, not-false}
+use Rattle.message.proofs.Laws.{and-true, and-false}
+use Rattle.conduct.specs.Lists.{all, distinct}
+use Rattle.conduct.specs.Session.{Session, isUp, held}
+use Rattle.conduct.specs.Sound.{soundState, soundPush, sound}
+use Rattle.session.specs.Rows.{rowsOf, isBlank}
+use Rattle.session.specs.Record.{sessionOf, consistent}
+use Rattle.session.specs.declared.Session.{Session as Record}
+use Rattle.session.proofs.Rows.{unmapped, rows-count}
+
+-- what is left of `sound`: from the state on, from the number of pushes on, and from the pushes on
+abbrev from-pushes : Session → Bool
+from-pushes s = all soundPush (s .pushes) && distinct (held s)
+
+abbrev from-room : Session → Bool
+from-room s = (isUp (s .state) || eqb (length (s .pushes)) 0) && from-pushes s
+
+abbrev from-state : Session → Bool
+from-state s = soundState (s .interval) (s .state) && (leb (length (s .pushes)) 32 && from-room s)
+
+-- the record that is tested
+abbrev at-1 : tie.Else1 → Record
+at-1 c = c .before .before .args .s
+
+abbrev at-2 : tie.Else2 → Record
+at-2 c = at-1 (c .before .before)
+
+abbrev at-3 : tie.Else3 → Record
+at-3 c = at-2 (c .before .before)
+
+abbrev at-4 : tie.Else4 → Record
+at-4 c = at-3 (c .before .before)
+
+abbrev at-5 : tie.Else5 → Record
+at-5 c = at-4 (c .before .before)
+
+abbrev at-6 : tie.Else6 → Record
+at-6 c = at-5 (c .before .before)
+
+-- behind each test
+fits : (c : tie.Else1)
+    → (all isBlank (drop (at-1 c .pushes .count) (at-1 c .pushes .rows)) && sound (sessionOf (at-1 c))) ≡ consistent (at-1 c)
+fits c = and-true _ (le-leb _ _ (c .if1 .left))
+
+blank : (c : tie.Else2) → sound (sessionOf (at-2 c)) ≡ consistent (at-2 c)
+blank c = and-true _ (sym (c .before .is-blank-after .ensures) ∙ not-false _ (c .if2 .left)) ∙ fits (c .before .before)
+
+allowed : (c : tie.Else3) → from-state (sessionOf (at-3 c)) ≡ consistent (at-3 c)
+allowed c = and-true _ (sym (c .before .is-allowed .ensures) ∙ not-false _ (c .if3 .left)) ∙ blank (c .before .before)
+
+size : (c : tie.Else4) → length (rowsOf (at-4 c .pushes)) ≡ at-4 c .pushes .count
+size c = rows-count (at-4 c .pushes) (search unmapped) (c .before .before .before .before .before .before .if1 .left)
+
+few : (c : tie.Else4) → from-room (sessionOf (at-4 c)) ≡ consistent (at-4 c)
+few c =
+    and-true _ (le-leb (length (rowsOf (at-4 c .pushes))) 32 (omega (arith, size c)))
+    ∙ and-true _ (sym (c .before .is-state-sound .ensures) ∙ not-false _ (c .if4 .left))
+    ∙ allowed (c .before .before)
+
+-- the code takes the count for the length
+counted : (c : tie.Else4) {b : Bool} → (isUp (at-4 c .state) || eqb (at-4 c .pushes .count) 0) ≡ b
+    → (isUp (at-4 c .state) || eqb (length (rowsOf (at-4 c .pushes))) 0) ≡ b
+counted c e = ap (λ (n : ℕ). isUp (at-4 c .state) || eqb n 0) (size c) ∙ e
+
+quiet : (c : tie.Else5) → from-pushes (sessionOf (at-5 c)) ≡ consistent (at-5 c)
+quiet c =
+    let passes = counted (c .before .before) (sym (c .before .is-quiet .ensures) ∙ not-false _ (c .if5 .left)) in
+    and-true _ passes ∙ few (c .before .before)
+
+each-sound : (c : tie.Else6) → distinct (held (sessionOf (at-6 c))) ≡ consistent (at-6 c)
+each-sound c = and-true _ (sym (c .before .all-sound .ensures) ∙ not-false _ (c .if6 .left)) ∙ quiet (c .before .before)
+
+-- the held numbers stand in their places
+inside : (c : tie.After-held) → c .held .result .count ≤ length (c .held .result .numbers)
+inside c =
+    let places : length (c .held .result .numbers) ≡ 33 = search needs in
+    omega (arith, c .held .ensures .1)
+
+returns : tie.Need-returns
+returns c = and-false _ (lt-leb _ _ (c .if1 .taken))
+
+is-blank-after-requires : tie.Need-is-blank-after-requires
+is-blank-after-requires c κs = search needs
+
+returns-2 : tie.Need-returns-2
+returns-2 c = and-false _ (sym (c .before .is-blank-after .ensures) ∙ not-true _ (c .if2 .taken)) ∙ fits (c .before .before)
+
+is-allowed-requires : tie.Need-is-allowed-requires
+is-allowed-requires c κs = search needs
+
+returns-3 : tie.Need-returns-3
+returns-3 c = and-false _ (sym (c .before .is-allowed .ensures) ∙ not-true _ (c .if3 .taken)) ∙ blank (c .before .before)
+
+is-state-sound-requires : tie.Need-is-state-sound-requires
+is-state-sound-requires c κs = search needs
+
+returns-4 : tie.Need-returns-4
+returns-4 c = and-false _ (sym (c .before .is-state-sound .ensures) ∙ not-true _ (c .if4 .taken)) ∙ allowed (c .before .before)
+
+is-quiet-requires : tie.Need-is-quiet-requires
+is-quiet-requires c κs = search needs
+
+returns-5 : tie.Need-returns-5
+returns-5 c =
+    let fails = counted (c .before .before) (sym (c .before .is-quiet .ensures) ∙ not-true _ (c .if5 .taken)) in
+    and-false _ fails ∙ few (c .before .before)
+
+all-sound-requires : tie.Need-all-sound-requires
+all-sound-requires c κs = search needs
+
+returns-6 : tie.Need-returns-6
+returns-6 c = and-false _ (sym (c .before .all-sound .ensures) ∙ not-true _ (c .if6 .taken)) ∙ quiet (c .before .before)
+
+held-requires : tie.Need-held-requires
+held-requires c κs = search needs
+
+array-share-prefix-held : tie.Need-array-share-prefix-held
+array-share-prefix-held c = inside (c .before)
+
+slice-aggregate-all-differ : tie.Need-slice-aggregate-all-differ
+slice-aggregate-all-differ c = sym (length-take-le _ _ (inside (c .before .before)))
+
+all-differ-requires : tie.Need-all-differ-requires
+all-differ-requires c κs = search needs
+
+returns-7 : tie.Need-returns-7
+returns-7 c =
+    let gathered = c .before .before .before .held .ensures .0 in
+    c .all-differ .ensures ∙ ap distinct gathered ∙ each-sound (c .before .before .before .before)
+
+pub is-consistent-spec : {M : Type 1} → statement M
+is-consistent-spec =
+    tie.close
+    (tie.spec
+    returns
+    is-blank-after-requires
+    returns-2
+    is-allowed-requires
+    returns-3
+    is-state-sound-requires
+    returns-4
+    is-quiet-requires
+    returns-5
+    all-sound-requires
+    returns-6
+    held-requires
+    array-share-prefix-held
+    slice-aggregate-all-differ
+    all-differ-requires
+    returns-7)

@@ -1,0 +1,38 @@
+// The test behind refusal 27.
+use crate::Session;
+use crate::holding;
+use crate::tables;
+use rules::numbers;
+use rules::sound;
+ghost use mathlib.Core.Path.{_≡_};
+ghost use Rattle.session.specs.Record.{consistent};
+
+// Whether the session was made, or can be reached from one that was.
+pub(crate) fn is_consistent(s: Session) -> bool
+    ensures { λ r. ⌜ r ≡ consistent s ⌝ }
+{
+    let table = s.pushes;
+    let count = table.count;
+    let state = s.state;
+    if tables::MOST < count {
+        return false;
+    }
+    if !table.is_blank_after() {
+        return false;
+    }
+    if !sound::is_allowed(s.interval) {
+        return false;
+    }
+    if !sound::is_state_sound(s.interval, state) {
+        return false;
+    }
+    if !sound::is_quiet(state, count) {
+        return false;
+    }
+    if !table.all_sound() {
+        return false;
+    }
+    let holding = holding::held(s);
+    let held = holding.numbers;
+    numbers::all_differ(&held[..holding.count])
+}
