@@ -70,7 +70,7 @@ told n calls.Tick b e = by-tick (cc)
 told n calls.Connected b e = none-is-some e
 told n calls.Lost b e = none-is-some e
 told n calls.Stop b e = none-is-some e
-told n (calls.Give what handle) b e = none-is-some e
+told n (calls.Push what handle) b e = none-is-some e
 told n (calls.Heard m) b e = go (m .kind) refl e
   where
     unread : Bool

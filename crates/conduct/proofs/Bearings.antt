@@ -26,7 +26,7 @@ use Rattle.conduct.specs.Table.{actionOf}
 use Rattle.conduct.specs.Rules as rules
 use Rattle.conduct.specs.Rules.{goes, touches, note, tick, namedBy, unmatched, advisedAbout, acted, moveOf}
 use Rattle.conduct.specs.History.{namesNumber, names, isUnreadableMessage, Bearing, adviceBearing, messageBearing, callBearing}
-use Rattle.conduct.specs.History.Bearing.{ticked, acknowledged, unreadable, advised}
+use Rattle.conduct.specs.History.Bearing.{ticked, acknowledged, unreadableMessage, advised}
 use Rattle.conduct.specs.declared.Awaited.{Awaited}
 use Rattle.conduct.specs.declared.Awaited.the-variants as awaited
 use Rattle.conduct.specs.declared.State.{State}
@@ -53,7 +53,7 @@ use Rattle.conduct.proofs.Calls.{none-mine}
 abbrev fateBy : Bearing → Push → Fate
 fateBy ticked p = fateOf sweeps.Older p
 fateBy acknowledged p = Close (eventOf closedAcknowledged p)
-fateBy unreadable p = againOr closedAdvised p
+fateBy unreadableMessage p = againOr closedAdvised p
 fateBy advised p = Close (eventOf closedAdvised p)
 
 -- of a call: one that bears on nothing leaves a push as it is
@@ -112,7 +112,7 @@ same-tale [] what sent age n n′ h h′ = refl
 same-tale (ticked ∷ bs) what sent age n n′ h h′ =
     tick-agrees bs what sent age n n′ h h′ (same-tale bs what sent (age + 1) n n′ h h′) (same-tale bs what 2 0 n n′ h h′)
 same-tale (acknowledged ∷ bs) what sent age n n′ h h′ = refl
-same-tale (unreadable ∷ bs) what sent age n n′ h h′ =
+same-tale (unreadableMessage ∷ bs) what sent age n n′ h h′ =
     again-agrees bs what sent age n n′ h h′ closedAdvised (same-tale bs what 2 0 n n′ h h′)
 same-tale (advised ∷ bs) what sent age n n′ h h′ = refl
 
@@ -176,7 +176,7 @@ module _ (n : ℕ) (p : Push) (own : p .number ≡ n) (interval last : ℕ) (wai
         go false number typed advice = refl
         go true numbers.Nothing typed advice = refl
         go true (numbers.Names m) true advices.UnreadableMessage =
-            named-is unreadable sweeps.Unreadable (note advisoryArrived) m (rw (eq-eqb (p .number) n own)) (λ e. rw e)
+            named-is unreadableMessage sweeps.UnreadableMessage (note advisoryArrived) m (rw (eq-eqb (p .number) n own)) (λ e. rw e)
         go true (numbers.Names m) true advices.Other =
             named-is advised sweeps.Advised (note advisoryArrived) m (rw (eq-eqb (p .number) n own)) (λ e. rw e)
         go true (numbers.Names m) false advice =
@@ -204,7 +204,7 @@ module _ (n : ℕ) (p : Push) (own : p .number ≡ n) (interval last : ℕ) (wai
     call-is calls.Connected u = absurd (true-false u refl)
     call-is calls.Lost u = absurd (true-false u refl)
     call-is calls.Stop u = absurd (true-false u refl)
-    call-is (calls.Give what handle) u = refl
+    call-is (calls.Push what handle) u = refl
     call-is (calls.Heard m) u = heard-is m (m .kind)
     call-is (calls.Unreadable refusal) u = refl
 

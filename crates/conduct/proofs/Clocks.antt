@@ -58,7 +58,7 @@ onward s calls.Tick a t = absurd (true-false refl t)
 onward s calls.Connected a t = opens (connecting-is (s .state) (accepted-fits s calls.Connected a)) refl refl
 onward s calls.Lost a t = ends (losing-from (s .state) (accepted-fits s calls.Lost a)) refl refl
 onward s calls.Stop a t = stops (stop-stops (s .state) .0) (stop-stops (s .state) .1)
-onward s (calls.Give what handle) a t = same refl refl
+onward s (calls.Push what handle) a t = same refl refl
 onward s (calls.Heard m) a t =
     acted-onward s m (actionOf (s .state) (m .kind)) (placed s m (s .state) refl (accepted-fits s (calls.Heard m) a))
 onward s (calls.Unreadable refusal) a t = same refl refl
@@ -85,7 +85,7 @@ by-turns P s c refused led ticked = go (refusalOf s c) refl
     accepted-one calls.Connected e a = led (moveOf s c) (onward s c a (ap isTick e))
     accepted-one calls.Lost e a = led (moveOf s c) (onward s c a (ap isTick e))
     accepted-one calls.Stop e a = led (moveOf s c) (onward s c a (ap isTick e))
-    accepted-one (calls.Give what handle) e a = led (moveOf s c) (onward s c a (ap isTick e))
+    accepted-one (calls.Push what handle) e a = led (moveOf s c) (onward s c a (ap isTick e))
     accepted-one (calls.Heard m) e a = led (moveOf s c) (onward s c a (ap isTick e))
     accepted-one (calls.Unreadable refusal) e a = led (moveOf s c) (onward s c a (ap isTick e))
 

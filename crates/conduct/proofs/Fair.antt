@@ -225,7 +225,7 @@ module _ (s : Session) where
     fair-of calls.Connected f r = record { to-is = refl; leaving = λ e. inr (connecting-below (s .state) f); taking = frees refl refl }
     fair-of calls.Lost f r = waits-fair _
     fair-of calls.Stop f r = stop-fair (s .state)
-    fair-of (calls.Give what handle) f r =
+    fair-of (calls.Push what handle) f r =
         record {
           to-is = g .state-is;
           leaving = λ e. inr e;

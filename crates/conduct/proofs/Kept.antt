@@ -18,7 +18,7 @@ use Rattle.conduct.specs.declared.Push.{Push}
 use Rattle.conduct.specs.declared.Pushed.{Pushed}
 use Rattle.conduct.specs.declared.Pushed.the-variants.{Response, Advisory}
 use Rattle.conduct.specs.declared.Sweep.{Sweep}
-use Rattle.conduct.specs.declared.Sweep.the-variants.{Still, Older, Lost, Acknowledged, Unreadable, Advised}
+use Rattle.conduct.specs.declared.Sweep.the-variants.{Still, Older, Lost, Acknowledged, UnreadableMessage, Advised}
 use Rattle.conduct.specs.declared.Fate.{Fate}
 use Rattle.conduct.specs.declared.Fate.the-variants.{Keep, Again, Close}
 use Rattle.conduct.proofs.Lists.{both, both-of, all-flat, all-implies, length-flat-le, among-append, distinct-head}
@@ -63,7 +63,7 @@ fate-sound Older p h =
         both (a .0) (both (b .0) (lt-ltb (p .age + 1) 20 (omega arith)))
 fate-sound Lost p h = refl
 fate-sound (Acknowledged n) p h = cond-both SoundFate (eqb (p .number) n) refl (both h refl)
-fate-sound (Unreadable n) p h = cond-both SoundFate (eqb (p .number) n) (again-or-sound _ p) (both h refl)
+fate-sound (UnreadableMessage n) p h = cond-both SoundFate (eqb (p .number) n) (again-or-sound _ p) (both h refl)
 fate-sound (Advised n) p h = cond-both SoundFate (eqb (p .number) n) refl (both h refl)
 
 pub kept-sound : (sweep : Sweep) (ps : List Push) → all soundPush ps ≡ true → all soundPush (flat (keeps sweep) ps) ≡ true

@@ -67,7 +67,7 @@ unlost sweeps.Still h p = refl
 unlost sweeps.Older h p = cond-both Unlost (ltb (p .age) 19) refl (unlost-again p 11 refl)
 unlost sweeps.Lost h p = absurd (true-false refl h)
 unlost (sweeps.Acknowledged n) h p = cond-both Unlost (eqb (p .number) n) refl refl
-unlost (sweeps.Unreadable n) h p = cond-both Unlost (eqb (p .number) n) (unlost-again p 10 refl) refl
+unlost (sweeps.UnreadableMessage n) h p = cond-both Unlost (eqb (p .number) n) (unlost-again p 10 refl) refl
 unlost (sweeps.Advised n) h p = cond-both Unlost (eqb (p .number) n) refl refl
 
 sent-unlost : (s : Session) (what : Pushed) (handle : ℕ)

@@ -47,7 +47,7 @@ isLost sweeps.Still = false
 isLost sweeps.Older = false
 isLost sweeps.Lost = true
 isLost (sweeps.Acknowledged n) = false
-isLost (sweeps.Unreadable n) = false
+isLost (sweeps.UnreadableMessage n) = false
 isLost (sweeps.Advised n) = false
 
 -- the codes of remarks that have no detail, and the remarks that are made
@@ -220,7 +220,7 @@ move-usual s calls.Tick a = tick-usual (s .interval) (nextNumber s) (s .state)
 move-usual s calls.Connected a = connected-usual (s .state) (accepted-fits s calls.Connected a)
 move-usual s calls.Lost a = departs (Waiting 300) partings.Nothing refl (λ h. omega arith)
 move-usual s calls.Stop a = stop-usual (s .state)
-move-usual s (calls.Give what handle) a = in-place (s .state) sweeps.Still (remarks.Send what handle) refl refl refl
+move-usual s (calls.Push what handle) a = in-place (s .state) sweeps.Still (remarks.Send what handle) refl refl refl
 move-usual s (calls.Heard m) a = acted-usual s m (actionOf (s .state) (m .kind)) (answer-where (s .state) (m .kind))
 move-usual s (calls.Unreadable refusal) a = in-place (s .state) sweeps.Still (remarks.Note codes.unreadable refusal) refl refl refl
 

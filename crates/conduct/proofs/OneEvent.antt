@@ -232,7 +232,7 @@ one-event s calls.Tick ok is accepted = absurd (true-false is refl)
 one-event s calls.Connected ok is accepted = absurd (true-false is refl)
 one-event s calls.Lost ok is accepted = absurd (true-false is refl)
 one-event s calls.Stop ok is accepted = absurd (true-false is refl)
-one-event s (calls.Give what handle) ok is accepted = absurd (true-false is refl)
+one-event s (calls.Push what handle) ok is accepted = absurd (true-false is refl)
 one-event s (calls.Heard m) ok is accepted =
     let now = accepted-step s (calls.Heard m) accepted in
     ⊎-elim (λ one. inl (ap (λ (a : Answered). length (a .events)) now ∙ one))

@@ -64,8 +64,8 @@ up-not-stopped Stopped h = absurd (true-false h refl)
 
 pub refused-full : RefusedFull
 refused-full s what h u =
-    let e : refusalOf s (calls.Give what h) ≡ cond (ltb (length (s .pushes)) 32) 0 7 = rw (up-not-stopped (s .state) u, u) in
-    let r = refused-by s (calls.Give what h) ∙ e in
+    let e : refusalOf s (calls.Push what h) ≡ cond (ltb (length (s .pushes)) 32) 0 7 = rw (up-not-stopped (s .state) u, u) in
+    let r = refused-by s (calls.Push what h) ∙ e in
     (λ l. r ∙ rw (not-lt l), λ l. r ∙ rw (lt-ltb (length (s .pushes)) 32 (omega arith)))
   where
     not-lt : 32 ≤ length (s .pushes) → ltb (length (s .pushes)) 32 ≡ false
@@ -103,7 +103,7 @@ fits-as state calls.Tick = named-states state .0
 fits-as state calls.Connected = named-states state .1
 fits-as state calls.Lost = named-states state .4
 fits-as state calls.Stop = named-states state .0
-fits-as state (calls.Give what handle) = named-states state .2
+fits-as state (calls.Push what handle) = named-states state .2
 fits-as state (calls.Heard m) = named-states state .3
 fits-as state (calls.Unreadable r) = rw (given-numbers r, named-states state .3) (go (among r (8 ∷ 9 ∷ 10 ∷ 11 ∷ 12 ∷ 13 ∷ 14 ∷ [])))
   where

@@ -13,7 +13,7 @@ use Rattle.laws.proofs.Tests.{true-false}
 use Rattle.conduct.specs.Lists.{only, those, some, all}
 use Rattle.conduct.specs.Pushes.{eventOf, older, sentAgain, isResponse, sentOnce, keptBy, toldBy}
 use Rattle.conduct.specs.History.{closing, Bearing}
-use Rattle.conduct.specs.History.Bearing.{ticked, acknowledged, unreadable, advised}
+use Rattle.conduct.specs.History.Bearing.{ticked, acknowledged, unreadableMessage, advised}
 use Rattle.conduct.specs.declared.Event.{Event}
 use Rattle.conduct.specs.declared.Push.{Push}
 use Rattle.conduct.specs.declared.Fate.{Fate}
@@ -26,7 +26,7 @@ use Rattle.conduct.proofs.Lists.{both, both-of, flat-append}
 pub data Turned (bs : List Bearing) (q : Push) : Fate → Type 0 where
   stays : bs ≡ [] → Turned bs q (Keep q)
   ages : bs ≡ ticked ∷ [] → q .age < 19 → Turned bs q (Keep (older q))
-  again : ((bs ≡ ticked ∷ []) × (19 ≤ q .age)) ⊎ (bs ≡ unreadable ∷ []) → sentOnce q ≡ true
+  again : ((bs ≡ ticked ∷ []) × (19 ≤ q .age)) ⊎ (bs ≡ unreadableMessage ∷ []) → sentOnce q ≡ true
       → Turned bs q (Again (sentAgain q) (eventOf 5 q))
   closes : (code : ℕ) → closing code ≡ true → (code ≡ 9 → bs ≡ acknowledged ∷ []) → (bs ≡ acknowledged ∷ [] → code ≡ 9)
       → Turned bs q (Close (eventOf code q))
@@ -36,7 +36,7 @@ abbrev pub tickIn : List Bearing → ℕ
 tickIn [] = 0
 tickIn (ticked ∷ bs) = 1
 tickIn (acknowledged ∷ bs) = 0
-tickIn (unreadable ∷ bs) = 0
+tickIn (unreadableMessage ∷ bs) = 0
 tickIn (advised ∷ bs) = 0
 
 -- Of none or one push: what is said, how many ticks there are, and what is left. Of a push that is closed nothing more is said, and
@@ -103,7 +103,7 @@ tick-or-none : (bs : List Bearing) → tickIn bs ≤ 1
 tick-or-none [] = omega arith
 tick-or-none (ticked ∷ bs) = omega arith
 tick-or-none (acknowledged ∷ bs) = omega arith
-tick-or-none (unreadable ∷ bs) = omega arith
+tick-or-none (unreadableMessage ∷ bs) = omega arith
 tick-or-none (advised ∷ bs) = omega arith
 
 abbrev Young : List Push → Type 0
@@ -211,7 +211,7 @@ acknowledged-by (again (inr e) o) = (λ h. absurd (true-false h refl), λ i. cc)
 acknowledged-by (closes code c a b) = (λ h. a (eqb-true code 9 (sym (or-false (eqb code 9)) ∙ h)), λ i. rw (b i))
 
 pub resent-by : {bs : List Bearing} {q : Push} {f : Fate} → Turned bs q f → some isResending (toldBy f) ≡ true
-    → ((bs ≡ ticked ∷ []) × (19 ≤ q .age) × (sentOnce q ≡ true)) ⊎ (bs ≡ unreadable ∷ [])
+    → ((bs ≡ ticked ∷ []) × (19 ≤ q .age) × (sentOnce q ≡ true)) ⊎ (bs ≡ unreadableMessage ∷ [])
 resent-by (stays e) h = absurd (true-false h refl)
 resent-by (ages e l) h = absurd (true-false h refl)
 resent-by (again (inl e) o) h = inl (e .0, e .1, o)

@@ -13,7 +13,7 @@ use Rattle.conduct.specs.History.{closing, about}
 use Rattle.conduct.specs.declared.Event.{Event}
 use Rattle.conduct.specs.declared.Push.{Push}
 use Rattle.conduct.specs.declared.Sweep.{Sweep}
-use Rattle.conduct.specs.declared.Sweep.the-variants.{Still, Older, Lost, Acknowledged, Unreadable, Advised}
+use Rattle.conduct.specs.declared.Sweep.the-variants.{Still, Older, Lost, Acknowledged, UnreadableMessage, Advised}
 use Rattle.conduct.specs.declared.Fate.{Fate}
 use Rattle.conduct.specs.declared.Fate.the-variants.{Keep, Again, Close}
 use Rattle.conduct.proofs.Lists.{sieve}
@@ -59,7 +59,7 @@ fate-of Older p =
     cond-both (Of p) (ltb (p .age) 19) (record { kind = refl; named = refl; handled = refl }) (again-or-of p closedTimedOut refl)
 fate-of Lost p = (its p 12, refl)
 fate-of (Acknowledged n) p = cond-both (Of p) (is n p) (its p 9, refl) (the-same p)
-fate-of (Unreadable n) p = cond-both (Of p) (is n p) (again-or-of p closedAdvised refl) (the-same p)
+fate-of (UnreadableMessage n) p = cond-both (Of p) (is n p) (again-or-of p closedAdvised refl) (the-same p)
 fate-of (Advised n) p = cond-both (Of p) (is n p) (its p 10, refl) (the-same p)
 
 -- ---- what is said of n, and left of n

@@ -17,7 +17,7 @@ use Rattle.conduct.specs.Rules.{nextNumber, moveOf}
 use Rattle.conduct.specs.Step.{answer, step}
 use Rattle.conduct.specs.History.{Entry, entry, history, sessionAfter, ticks, bearing, span, eventsIn, said, closings, resendings}
 use Rattle.conduct.specs.History.{closing, resends, acknowledges, about, gives}
-use Rattle.conduct.specs.History.Bearing.{ticked, acknowledged, unreadable}
+use Rattle.conduct.specs.History.Bearing.{ticked, acknowledged, unreadableMessage}
 use Rattle.conduct.specs.Followed.{firstCode, mostResendings, mostTicks, Followed, EveryPushIsFollowed}
 use Rattle.conduct.specs.declared.Event.{Event}
 use Rattle.conduct.specs.declared.Push.{Push}
@@ -26,7 +26,7 @@ use Rattle.conduct.specs.declared.Pushed.the-variants.{Response, Advisor
 use Rattle.conduct.specs.declared.Fate.{Fate}
 use Rattle.conduct.specs.declared.Fate.the-variants.{Keep, Again, Close}
 use Rattle.conduct.specs.declared.Call.{Call}
-use Rattle.conduct.specs.declared.Call.the-variants.{Give}
+use Rattle.conduct.specs.declared.Call.the-variants as calls
 use Rattle.conduct.proofs.Lists.{flat-append, some-append, those-those, those-same}
 use Rattle.conduct.proofs.Refused.{refused-by}
 use Rattle.conduct.proofs.Reached.{sound-step, reached-is-sound}
@@ -185,7 +185,7 @@ module _ (what : Pushed) (n h : ℕ) (s : Session) (ok : sound s ≡ true) (alon
         (λ a. by .0 (sym e ∙ a), λ b. e ∙ by .1 b)
 
     resent-here : some (resends n) (here .events) ≡ true
-        → ((bearing n here ≡ ticked ∷ []) × (ticks (history s cs) ≡ 19)) ⊎ (bearing n here ≡ unreadable ∷ [])
+        → ((bearing n here ≡ ticked ∷ []) × (ticks (history s cs) ≡ 19)) ⊎ (bearing n here ≡ unreadableMessage ∷ [])
     resent-here a =
         let aged : Aged (opened what n h) (ticks (history s cs)) (still-open .0) = still-open .2 in
         ⊎-elim (λ b. inl (b .0, omega (arith, b .1, aged .young, aged .first-time (b .2) .1))) (λ b. inr b)
@@ -213,17 +213,17 @@ FollowedFrom what h t d =
     (n : ℕ) × (step t d .events ≡ record { code = firstCode what; number = n; detail = h } ∷ [])
     × ((es : List Call) → Followed what n h (history (step t d .next) es))
 
-given-followed : (t : Session) (what : Pushed) (h : ℕ) → sound t ≡ true → refusalOf t (Give what h) ≡ 0
-    → FollowedFrom what h t (Give what h)
+given-followed : (t : Session) (what : Pushed) (h : ℕ) → sound t ≡ true → refusalOf t (calls.Push what h) ≡ 0
+    → FollowedFrom what h t (calls.Push what h)
 given-followed t what h ok z =
     let sent = accepted-sent t what h ok z in
-    (nextNumber t, sent .says, followed what (nextNumber t) h (step t (Give what h) .next) (sound-step t (Give what h) ok) (sent .alone))
+    (nextNumber t, sent .says, followed what (nextNumber t) h (step t (calls.Push what h) .next) (sound-step t (calls.Push what h) ok) (sent .alone))
 
 pub every-push-is-followed : EveryPushIsFollowed
 every-push-is-followed s cs before rest x what h ok e c r =
     let q = place cs s before rest x e in
     let t : Session = sessionAfter s (q .0) in
-    let d : q .1 ≡ Give what h = sym (ap (λ (y : Entry). y .call) (q .4)) ∙ c in
+    let d : q .1 ≡ calls.Push what h = sym (ap (λ (y : Entry). y .call) (q .4)) ∙ c in
     let z : refusalOf t (q .1) ≡ 0 = sym (refused-by t (q .1)) ∙ (sym (ap (λ (y : Entry). y .refusal) (q .4)) ∙ r) in
     let f : FollowedFrom what h t (q .1) = rw d (given-followed t what h (reached-is-sound s (q .0) ok) (rw d at z)) in
     (f .0, ap (λ (y : Entry). y .events) (q .4) ∙ f .1, subst⁻¹ (λ (ys : List Entry). Followed what (f .0) h ys) (q .5) (f .2 (q .2)))

@@ -27,7 +27,7 @@ use Rattle.conduct.specs.Rules.{namedBy, acted, moveOf}
 use Rattle.conduct.specs.Step.{eventsBy, movedBy, answer, step}
 use Rattle.conduct.specs.History.{Entry, entry, accepted, isTick, ticks, names, isUnreadableMessage, about, gives}
 use Rattle.conduct.specs.History.{Bearing, adviceBearing, messageBearing, callBearing, bearing}
-use Rattle.conduct.specs.History.Bearing.{ticked, acknowledged, unreadable, advised}
+use Rattle.conduct.specs.History.Bearing.{ticked, acknowledged, unreadableMessage, advised}
 use Rattle.conduct.specs.declared.State.{State}
 use Rattle.conduct.specs.declared.State.the-variants.{Waiting, Connecting, Opening, Confirming, Up, Stopped}
 use Rattle.conduct.specs.declared.Push.{Push}
@@ -53,7 +53,7 @@ use Rattle.conduct.proofs.Story.Turned.{stays, ages, again, closes}
 abbrev Few : ℕ → List Bearing → Type 0
 Few k bs = (length bs ≤ 1) × (tickIn bs ≡ k)
 
-advice-cases : (P : Bearing → Type 0) (m : Message) → P unreadable → P advised
+advice-cases : (P : Bearing → Type 0) (m : Message) → P unreadableMessage → P advised
     → P (adviceBearing (m .«advisory_type» .there && isUnreadableMessage (m .«advisory_type» .advice)))
 advice-cases P m x y = go (m .«advisory_type» .there && isUnreadableMessage (m .«advisory_type» .advice))
   where
@@ -78,7 +78,7 @@ few-call n calls.Tick = (omega arith, refl)
 few-call n calls.Connected = (omega arith, refl)
 few-call n calls.Lost = (omega arith, refl)
 few-call n calls.Stop = (omega arith, refl)
-few-call n (calls.Give what handle) = (omega arith, refl)
+few-call n (calls.Push what handle) = (omega arith, refl)
 few-call n (calls.Heard m) = few-message n m (m .kind)
 few-call n (calls.Unreadable refusal) = (omega arith, refl)
 
@@ -95,7 +95,7 @@ ticks-borne n x xs = go (accepted x) (isTick (x .call)) (few-call n (x .call) .1
 
 -- ---- turns by what bears on the push
 
-again-or : (bs : List Bearing) (code : ℕ) (q : Push) → ((bs ≡ ticked ∷ []) × (19 ≤ q .age)) ⊎ (bs ≡ unreadable ∷ [])
+again-or : (bs : List Bearing) (code : ℕ) (q : Push) → ((bs ≡ ticked ∷ []) × (19 ≤ q .age)) ⊎ (bs ≡ unreadableMessage ∷ [])
     → Turned bs q (Close (eventOf code q)) → Turned bs q (againOr code q)
 again-or bs code q by else = cond-cases (Turned bs q) (sentOnce q) (λ e. again by e) (λ e. else)
 
@@ -107,8 +107,8 @@ turned-by (ticked ∷ []) q few =
     again-or (ticked ∷ []) closedTimedOut q (inl (refl, ltb-false (q .age) 19 e))
     (closes 11 refl (λ i. absurd (omega arith)) (λ i. cc)))
 turned-by (acknowledged ∷ []) q few = closes 9 refl (λ e. refl) (λ e. refl)
-turned-by (unreadable ∷ []) q few =
-    again-or (unreadable ∷ []) closedAdvised q (inr refl) (closes 10 refl (λ e. absurd (omega arith)) (λ e. cc))
+turned-by (unreadableMessage ∷ []) q few =
+    again-or (unreadableMessage ∷ []) closedAdvised q (inr refl) (closes 10 refl (λ e. absurd (omega arith)) (λ e. cc))
 turned-by (advised ∷ []) q few = closes 10 refl (λ e. absurd (omega arith)) (λ e. cc)
 turned-by (b ∷ b′ ∷ bs) q few = absurd (omega arith)
 
@@ -117,7 +117,7 @@ turned-by (b ∷ b′ ∷ bs) q few = absurd (omega arith)
 abbrev isAcknowledged : Bearing → Bool
 isAcknowledged ticked = false
 isAcknowledged acknowledged = true
-isAcknowledged unreadable = false
+isAcknowledged unreadableMessage = false
 isAcknowledged advised = false
 
 abbrev Unacknowledged : List Bearing → Type 0
@@ -165,7 +165,7 @@ module _ (n : ℕ) (s : Session) (up : isUp (s .state) ≡ true) where
   call-leaves calls.Connected h = refl
   call-leaves calls.Lost h = refl
   call-leaves calls.Stop h = refl
-  call-leaves (calls.Give what handle) h = refl
+  call-leaves (calls.Push what handle) h = refl
   call-leaves (calls.Heard m) h = message-leaves m (s .state) (m .kind) up h
   call-leaves (calls.Unreadable refusal) h = refl
 

@@ -30,7 +30,7 @@ RefusedStopped = (s : Session) (c : Call) → eqb (step s c .refusal) 5 ≡ isSt
 abbrev pub RefusedFull : Type 0
 RefusedFull =
     (s : Session) (what : Pushed) (h : ℕ) → isUp (s .state) ≡ true
-    → (32 ≤ length (s .pushes) → step s (calls.Give what h) .refusal ≡ 7) × (length (s .pushes) + 1 ≤ 32 → step s (calls.Give what h) .refusal ≡ 0)
+    → (32 ≤ length (s .pushes) → step s (calls.Push what h) .refusal ≡ 7) × (length (s .pushes) + 1 ≤ 32 → step s (calls.Push what h) .refusal ≡ 0)
 
 -- the states that each call fits, by their numbers; in another, if the session is not stopped, the call is refused with 6
 abbrev pub fitting : Call → List ℕ
@@ -38,7 +38,7 @@ fitting calls.Tick = 1 ∷ 2 ∷ 3 ∷ 4 ∷ 5 ∷ []
 fitting calls.Connected = 2 ∷ []
 fitting calls.Lost = 2 ∷ 3 ∷ 4 ∷ 5 ∷ []
 fitting calls.Stop = 1 ∷ 2 ∷ 3 ∷ 4 ∷ 5 ∷ []
-fitting (calls.Give what handle) = 5 ∷ []
+fitting (calls.Push what handle) = 5 ∷ []
 fitting (calls.Heard m) = 3 ∷ 4 ∷ 5 ∷ []
 fitting (calls.Unreadable refusal) = cond (among refusal (8 ∷ 9 ∷ 10 ∷ 11 ∷ 12 ∷ 13 ∷ 14 ∷ [])) (3 ∷ 4 ∷ 5 ∷ []) []
 
@@ -80,7 +80,7 @@ isMessage calls.Tick = false
 isMessage calls.Connected = false
 isMessage calls.Lost = false
 isMessage calls.Stop = false
-isMessage (calls.Give what handle) = false
+isMessage (calls.Push what handle) = false
 isMessage (calls.Heard m) = true
 isMessage (calls.Unreadable refusal) = true
 

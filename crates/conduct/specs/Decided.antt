@@ -24,7 +24,7 @@ pub record Standing (what : Pushed) (n : ℕ) (after : List Entry) : Type 0 wher
   pub later : List Entry
   pub handle : ℕ
   pub is-history : history session made ≡ before ++ push ∷ (after ++ later)
-  pub is-push : push .call ≡ calls.Give what handle
+  pub is-push : push .call ≡ calls.Push what handle
   pub is-accepted : push .events ≡ record { code = firstCode what; number = n; detail = handle } ∷ []
   pub stands : all (λ (x : Entry). isUp (x .state)) after ≡ true
   pub ungiven : span n after ≡ after

@@ -11,7 +11,7 @@ use Rattle.conduct.specs.Lists.{some, all}
 use Rattle.conduct.specs.Session.{Session}
 use Rattle.conduct.specs.Sound.{sound}
 use Rattle.conduct.specs.History.{Entry, history, ticks, bearing, acknowledges, resends, gives, said, closings, resendings}
-use Rattle.conduct.specs.History.Bearing.{ticked, acknowledged, unreadable}
+use Rattle.conduct.specs.History.Bearing.{ticked, acknowledged, unreadableMessage}
 use Rattle.conduct.specs.declared.Event.{Event}
 use Rattle.conduct.specs.declared.Pushed.{Pushed}
 use Rattle.conduct.specs.declared.Pushed.the-variants.{Response, Advisory}
@@ -45,7 +45,7 @@ pub record Followed (what : Pushed) (n h : ℕ) (rest : List Entry) : Type 0 whe
       × (bearing n x ≡ acknowledged ∷ [] → some (acknowledges n) (x .events) ≡ true)
   -- it is sent again only in the 20th accepted tick after the first sending, or on an UnreadableMessage Advisory with its number
   pub resent-when : (a b : List Entry) (x : Entry) → rest ≡ a ++ x ∷ b → closings n a ≡ [] → some (resends n) (x .events) ≡ true
-      → ((bearing n x ≡ ticked ∷ []) × (ticks a ≡ 19)) ⊎ (bearing n x ≡ unreadable ∷ [])
+      → ((bearing n x ≡ ticked ∷ []) × (ticks a ≡ 19)) ⊎ (bearing n x ≡ unreadableMessage ∷ [])
   -- while it is open its number is given to nothing else
   pub unshared : (a b : List Entry) (x : Entry) → rest ≡ a ++ x ∷ b → closings n a ≡ [] → some (gives n) (x .events) ≡ false
   -- all that is said of it has its handle
@@ -55,5 +55,5 @@ pub record Followed (what : Pushed) (n h : ℕ) (rest : List Entry) : Type 0 whe
 abbrev pub EveryPushIsFollowed : Type 0
 EveryPushIsFollowed =
     (s : Session) (cs : List Call) (before rest : List Entry) (x : Entry) (what : Pushed) (h : ℕ)
-    → sound s ≡ true → history s cs ≡ before ++ x ∷ rest → x .call ≡ calls.Give what h → x .refusal ≡ 0
+    → sound s ≡ true → history s cs ≡ before ++ x ∷ rest → x .call ≡ calls.Push what h → x .refusal ≡ 0
     → (n : ℕ) × (x .events ≡ record { code = firstCode what; number = n; detail = h } ∷ []) × Followed what n h rest

@@ -49,7 +49,7 @@ isTick calls.Tick = true
 isTick calls.Connected = false
 isTick calls.Lost = false
 isTick calls.Stop = false
-isTick (calls.Give what handle) = false
+isTick (calls.Push what handle) = false
 isTick (calls.Heard m) = false
 isTick (calls.Unreadable refusal) = false
 
@@ -73,11 +73,11 @@ isUnreadableMessage advices.Other = false
 pub data Bearing : Type 0 where
   ticked : Bearing
   acknowledged : Bearing
-  unreadable : Bearing
+  unreadableMessage : Bearing
   advised : Bearing
 
 abbrev pub adviceBearing : Bool → Bearing
-adviceBearing true = unreadable
+adviceBearing true = unreadableMessage
 adviceBearing false = advised
 
 abbrev pub messageBearing : ℕ → Message → Kind → List Bearing
@@ -95,7 +95,7 @@ callBearing n calls.Tick = ticked ∷ []
 callBearing n calls.Connected = []
 callBearing n calls.Lost = []
 callBearing n calls.Stop = []
-callBearing n (calls.Give what handle) = []
+callBearing n (calls.Push what handle) = []
 callBearing n (calls.Heard m) = messageBearing n m (m .kind)
 callBearing n (calls.Unreadable refusal) = []
 

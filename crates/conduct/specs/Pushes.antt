@@ -49,7 +49,7 @@ fateOf sweeps.Still p = Keep p
 fateOf sweeps.Older p = cond (ltb (p .age) 19) (Keep (older p)) (againOr closedTimedOut p)
 fateOf sweeps.Lost p = Close (eventOf closedLost p)
 fateOf (sweeps.Acknowledged n) p = closedIf (eqb (p .number) n) closedAcknowledged p
-fateOf (sweeps.Unreadable n) p = cond (eqb (p .number) n) (againOr closedAdvised p) (Keep p)
+fateOf (sweeps.UnreadableMessage n) p = cond (eqb (p .number) n) (againOr closedAdvised p) (Keep p)
 fateOf (sweeps.Advised n) p = closedIf (eqb (p .number) n) closedAdvised p
 
 -- what is open after it, and what is said of it

@@ -125,7 +125,7 @@ acknowledged s (numbers.Names n) = okNaming s n (s .state)
 
 -- what an Advisory does to the push that it names
 abbrev pub advises : Advice → ℕ → Sweep
-advises advices.UnreadableMessage n = sweeps.Unreadable n
+advises advices.UnreadableMessage n = sweeps.UnreadableMessage n
 advises advices.Other n = sweeps.Advised n
 
 abbrev pub advisoryNaming : Session → Advice → ℕ → State → Move
@@ -167,6 +167,6 @@ moveOf s calls.Tick = tick (s .interval) (nextNumber s) (s .state)
 moveOf s calls.Connected = connected
 moveOf s calls.Lost = lost
 moveOf s calls.Stop = stop (s .state)
-moveOf s (calls.Give what handle) = goes (s .state) (remarks.Send what handle)
+moveOf s (calls.Push what handle) = goes (s .state) (remarks.Send what handle)
 moveOf s (calls.Heard m) = acted s m (actionOf (s .state) (m .kind))
 moveOf s (calls.Unreadable refusal) = goes (s .state) (remarks.Note codes.unreadable refusal)

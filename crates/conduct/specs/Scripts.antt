@@ -48,10 +48,10 @@ stop = calls.Stop ∷ []
 
 -- a Response of the host with its handle, and an Advisory
 abbrev pub push : ℕ → List Call
-push handle = calls.Give Response handle ∷ []
+push handle = calls.Push Response handle ∷ []
 
 abbrev pub advise : ℕ → List Call
-advise handle = calls.Give Advisory handle ∷ []
+advise handle = calls.Push Advisory handle ∷ []
 
 abbrev pub unreadable : ℕ → List Call
 unreadable refusal = calls.Unreadable refusal ∷ []

@@ -115,7 +115,7 @@ fits state calls.Tick = not (isStopped state)
 fits state calls.Connected = isConnecting state
 fits state calls.Lost = isConnecting state || isLinked state
 fits state calls.Stop = not (isStopped state)
-fits state (calls.Give what handle) = isUp state
+fits state (calls.Push what handle) = isUp state
 fits state (calls.Heard message) = isLinked state
 fits state (calls.Unreadable refusal) = isLinked state && givenByReader refusal
 
@@ -124,7 +124,7 @@ isPush calls.Tick = false
 isPush calls.Connected = false
 isPush calls.Lost = false
 isPush calls.Stop = false
-isPush (calls.Give what handle) = true
+isPush (calls.Push what handle) = true
 isPush (calls.Heard message) = false
 isPush (calls.Unreadable refusal) = false
 

@@ -1,5 +1,7 @@
 // What a provider's session is made of (document 01, "The session"): its states, its pushes, its calls and its events. `specs/` has the paper's rules as
-// definitions, and what is promised about them; `proofs/` shows it. The code is in crates/session.
+// definitions, and what is promised about them; `proofs/` shows it. The code is in crates/rules and crates/session.
+pub mod codes;
+
 use message::Message;
 ghost use mathlib.Core.Path.{_≡_};
 ghost use Rattle.conduct.specs.Session.{stateNumber};
@@ -64,7 +66,7 @@ pub enum Call {
     Lost,
     Stop,
     // A push of the host, with its handle.
-    Give(Pushed, u32),
+    Push(Pushed, u32),
     // A message that was read, and the refusal of one that was not.
     Heard(Message),
     Unreadable(u32),
@@ -85,7 +87,7 @@ pub enum Sweep {
     Older,
     Lost,
     Acknowledged(u32),
-    Unreadable(u32),
+    UnreadableMessage(u32),
     Advised(u32),
 }
 

@@ -53,8 +53,8 @@ unfoldable pub numberedOf : List ℕ → Line
 numberedOf line =
     cond (begins (codes "interval ") line) (intervalOf (drop 9 line))
     (orElse (behind (codes "tick ") line) ticksOf
-    (orElse (behind (codes "push ") line) (λ n. lines.Other (calls.Give pushed.Response n))
-    (orElse (behind (codes "advise ") line) (λ n. lines.Other (calls.Give pushed.Advisory n))
+    (orElse (behind (codes "push ") line) (λ n. lines.Other (calls.Push pushed.Response n))
+    (orElse (behind (codes "advise ") line) (λ n. lines.Other (calls.Push pushed.Advisory n))
     (orElse (behind (codes "unreadable ") line) (λ n. lines.Other (calls.Unreadable n))
     (orElse (behind (codes "last ") line) lines.Last lines.Bad)))))
 

@@ -112,11 +112,11 @@ fn numbered(line: &[u8]) -> Line
     }
     let push = behind(line, b"push ");
     if push.flag() == 1 {
-        return Line::Other(Call::Give(Pushed::Response, push.named()));
+        return Line::Other(Call::Push(Pushed::Response, push.named()));
     }
     let advise = behind(line, b"advise ");
     if advise.flag() == 1 {
-        return Line::Other(Call::Give(Pushed::Advisory, advise.named()));
+        return Line::Other(Call::Push(Pushed::Advisory, advise.named()));
     }
     let unreadable = behind(line, b"unreadable ");
     if unreadable.flag() == 1 {

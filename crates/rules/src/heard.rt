@@ -52,7 +52,7 @@ pub fn advises(advice: Advice, n: u32) -> Sweep
     ensures { λ r. ⌜ r ≡ Rules.advises advice n ⌝ }
 {
     match advice {
-        Advice::UnreadableMessage => Sweep::Unreadable(n),
+        Advice::UnreadableMessage => Sweep::UnreadableMessage(n),
         Advice::Other => Sweep::Advised(n),
     }
 }

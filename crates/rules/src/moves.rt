@@ -6,6 +6,7 @@ use conduct::Parting;
 use conduct::Remark;
 use conduct::State;
 use conduct::Sweep;
+use conduct::codes;
 use message::Status;
 ghost use mathlib.Core.Path.{_≡_};
 ghost use Rattle.conduct.specs.declared.Awaited.the-variants as awaiting;
@@ -70,7 +71,7 @@ fn tick_waiting(left: u32) -> Move
     if 1 < left {
         return goes(State::Waiting(left - 1), Remark::Nothing);
     }
-    goes(State::Connecting, Remark::Note(1, 0))
+    goes(State::Connecting, Remark::Note(codes::CONNECT, 0))
 }
 
 fn tick_opening(age: u32) -> Move
@@ -101,7 +102,10 @@ fn tick_quiet(interval: u32, next: u32, age: u32) -> Move
             return ages(State::Up(Awaited::Nothing, older), Remark::Nothing);
         }
     }
-    ages(State::Up(Awaited::Ok(next), 0), Remark::Note(3, 0))
+    ages(
+        State::Up(Awaited::Ok(next), 0),
+        Remark::Note(codes::SEND_SESSION_OK, 0),
+    )
 }
 
 fn tick_up(interval: u32, next: u32, awaited: Awaited, age: u32) -> Move
@@ -151,8 +155,14 @@ pub fn answered(next: u32, status: Status) -> Move
     ensures { λ r. ⌜ r ≡ Rules.answered next status ⌝ }
 {
     match status {
-        Status::Ok => goes(State::Confirming(next, 0), Remark::Note(3, 0)),
-        Status::RedundantSession => goes(State::Confirming(next, 0), Remark::Note(3, 0)),
+        Status::Ok => goes(
+            State::Confirming(next, 0),
+            Remark::Note(codes::SEND_SESSION_OK, 0),
+        ),
+        Status::RedundantSession => goes(
+            State::Confirming(next, 0),
+            Remark::Note(codes::SEND_SESSION_OK, 0),
+        ),
         Status::Other => waits(Parting::Disconnect),
     }
 }
@@ -160,5 +170,5 @@ pub fn answered(next: u32, status: Status) -> Move
 pub fn unmatched(state: State) -> Move
     ensures { λ r. ⌜ r ≡ Rules.unmatched state ⌝ }
 {
-    goes(state, Remark::Note(15, 0))
+    goes(state, Remark::Note(codes::UNMATCHED, 0))
 }

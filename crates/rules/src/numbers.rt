@@ -1,4 +1,5 @@
 // The numbers that are held, and the next free one.
+use conduct::codes;
 ghost use mathlib.Core.Path.{_≡_};
 ghost use Rattle.conduct.specs.Lists.{among, distinct};
 ghost use Rattle.conduct.specs.Numbers.{nextFree, takesNumber};
@@ -49,20 +50,20 @@ pub fn next_free(numbers: &[u32], last: u32) -> u32
 pub fn takes_number(code: u32) -> bool
     ensures { λ r. ⌜ r ≡ takesNumber code ⌝ }
 {
-    if code == 2 {
+    if code == codes::SEND_SESSION_OPEN_REQUEST {
         return true;
     }
-    if code == 3 {
+    if code == codes::SEND_SESSION_OK {
         return true;
     }
-    if code == 4 {
+    if code == codes::SEND_RESPONSE {
         return true;
     }
-    if code == 6 {
+    if code == codes::SEND_ADVISORY {
         return true;
     }
-    if code == 18 {
+    if code == codes::SEND_ALERT {
         return true;
     }
-    code == 19
+    code == codes::SEND_GOING_OUT_OF_SERVICE
 }

@@ -4,6 +4,7 @@ use conduct::Fate;
 use conduct::Push;
 use conduct::Pushed;
 use conduct::Sweep;
+use conduct::codes;
 ghost use mathlib.Core.Path.{_≡_};
 ghost use Prim.Native.Nat.{_<_};
 ghost use Rattle.conduct.specs.Pushes.{eventOf, older as Pushes·older, sentAgain, isResponse, sentOnce, againOr, fateOf};
@@ -73,7 +74,7 @@ fn again_or(code: u32, p: Push) -> Fate
     ensures { λ r. ⌜ r ≡ againOr code p ⌝ }
 {
     if sent_once(p) {
-        return Fate::Again(sent_again(p), event_of(5, p));
+        return Fate::Again(sent_again(p), event_of(codes::SEND_RESPONSE_AGAIN, p));
     }
     Fate::Close(event_of(code, p))
 }
@@ -88,27 +89,27 @@ pub fn fate_of(sweep: Sweep, p: Push) -> Fate
             if p.age < LAST_AGE {
                 Fate::Keep(older(p))
             } else {
-                again_or(11, p)
+                again_or(codes::CLOSED_TIMED_OUT, p)
             }
         }
-        Sweep::Lost => Fate::Close(event_of(12, p)),
+        Sweep::Lost => Fate::Close(event_of(codes::CLOSED_LOST, p)),
         Sweep::Acknowledged(number) => {
             if p.number == number {
-                Fate::Close(event_of(9, p))
+                Fate::Close(event_of(codes::CLOSED_ACKNOWLEDGED, p))
             } else {
                 Fate::Keep(p)
             }
         }
-        Sweep::Unreadable(number) => {
+        Sweep::UnreadableMessage(number) => {
             if p.number == number {
-                again_or(10, p)
+                again_or(codes::CLOSED_ADVISED, p)
             } else {
                 Fate::Keep(p)
             }
         }
         Sweep::Advised(number) => {
             if p.number == number {
-                Fate::Close(event_of(10, p))
+                Fate::Close(event_of(codes::CLOSED_ADVISED, p))
             } else {
                 Fate::Keep(p)
             }

@@ -94,7 +94,7 @@ pub fn fits(state: State, call: Call) -> bool
         Call::Connected => is_connecting(state),
         Call::Lost => fits_lost(state),
         Call::Stop => !is_stopped(state),
-        Call::Give(_, _) => is_up(state),
+        Call::Push(_, _) => is_up(state),
         Call::Heard(_) => is_linked(state),
         Call::Unreadable(refusal) => fits_unreadable(state, refusal),
     }
@@ -108,7 +108,7 @@ pub fn is_push(call: Call) -> bool
         Call::Connected => false,
         Call::Lost => false,
         Call::Stop => false,
-        Call::Give(_, _) => true,
+        Call::Push(_, _) => true,
         Call::Heard(_) => false,
         Call::Unreadable(_) => false,
     }

@@ -18,7 +18,7 @@ use Rattle.message.specs.declared.Number.the-variants as numbers
 use Rattle.message.specs.declared.NumberValue.{NumberValue}
 use Rattle.message.specs.declared.Message.{Message}
 use Rattle.conduct.specs.History.{namesNumber, names, Bearing, adviceBearing, messageBearing, callBearing}
-use Rattle.conduct.specs.History.Bearing.{acknowledged, unreadable, advised}
+use Rattle.conduct.specs.History.Bearing.{acknowledged, unreadableMessage, advised}
 use Rattle.session.specs.Answers.{callOf}
 use Rattle.session.specs.Heard.{bearingOf, Naming, OkNaming, AdvisoryNaming, saysUnreadable, OkByItsBytes, UnreadableByItsBytes, AdvisedByItsBytes}
 
@@ -101,7 +101,7 @@ module _ (bytes : List ℕ) (n : ℕ) where
 
 -- ---- which Advisory
 
-advice-unreadable : (t : Bool) → unreadable ≡ adviceBearing t → t ≡ true
+advice-unreadable : (t : Bool) → unreadableMessage ≡ adviceBearing t → t ≡ true
 advice-unreadable true e = refl
 advice-unreadable false e = cc
 
@@ -117,9 +117,9 @@ ok-by-its-bytes bytes n = (λ h. go (bears bytes n acknowledged h), ok-bears byt
     go (an-advisory a e) = absurd (no-ok (saysUnreadable (a .message)) (sym e))
 
 pub unreadable-by-its-bytes : UnreadableByItsBytes
-unreadable-by-its-bytes bytes n = (λ h. go (bears bytes n unreadable h), λ a says. rw says at (advisory-bears bytes n a))
+unreadable-by-its-bytes bytes n = (λ h. go (bears bytes n unreadableMessage h), λ a says. rw says at (advisory-bears bytes n a))
   where
-    go : Bears bytes n unreadable → (a : AdvisoryNaming bytes n) × (saysUnreadable (a .message) ≡ true)
+    go : Bears bytes n unreadableMessage → (a : AdvisoryNaming bytes n) × (saysUnreadable (a .message) ≡ true)
     go (an-ok a e) = absurd (no-ok true e)
     go (an-advisory a e) = (a, advice-unreadable (saysUnreadable (a .message)) e)
 

@@ -35,11 +35,11 @@ module _ (places : ℕ) (self : Session) {r r′ : Told} where
   pub stop-once : r ≡ told places self variants.Stop → r′ ≡ told places self variants.Stop → r ≡ r′
   stop-once = one-answer
 
-  pub respond-once : (handle : ℕ) → r ≡ told places self (variants.Give pushed.Response handle) → r′ ≡ told places self (variants.Give pushed.Response handle)
+  pub respond-once : (handle : ℕ) → r ≡ told places self (variants.Push pushed.Response handle) → r′ ≡ told places self (variants.Push pushed.Response handle)
       → r ≡ r′
   respond-once handle = one-answer
 
-  pub advise-once : (handle : ℕ) → r ≡ told places self (variants.Give pushed.Advisory handle) → r′ ≡ told places self (variants.Give pushed.Advisory handle)
+  pub advise-once : (handle : ℕ) → r ≡ told places self (variants.Push pushed.Advisory handle) → r′ ≡ told places self (variants.Push pushed.Advisory handle)
       → r ≡ r′
   advise-once handle = one-answer
 

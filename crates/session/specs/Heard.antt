@@ -14,7 +14,7 @@ use Rattle.message.specs.declared.Number.the-variants as numbers
 use Rattle.message.specs.declared.NumberValue.{NumberValue}
 use Rattle.message.specs.declared.Message.{Message}
 use Rattle.conduct.specs.History.{isUnreadableMessage, Bearing, callBearing}
-use Rattle.conduct.specs.History.Bearing.{acknowledged, unreadable, advised}
+use Rattle.conduct.specs.History.Bearing.{acknowledged, unreadableMessage, advised}
 use Rattle.session.specs.Answers.{callOfBytes}
 
 -- what the bytes are to the push n, when they are read and handed in
@@ -49,8 +49,8 @@ OkByItsBytes =
 abbrev pub UnreadableByItsBytes : Type 0
 UnreadableByItsBytes =
     (bytes : List ℕ) (n : ℕ)
-    → (bearingOf n bytes ≡ unreadable ∷ [] → (a : AdvisoryNaming bytes n) × (saysUnreadable (a .message) ≡ true))
-    × ((a : AdvisoryNaming bytes n) → saysUnreadable (a .message) ≡ true → bearingOf n bytes ≡ unreadable ∷ [])
+    → (bearingOf n bytes ≡ unreadableMessage ∷ [] → (a : AdvisoryNaming bytes n) × (saysUnreadable (a .message) ≡ true))
+    × ((a : AdvisoryNaming bytes n) → saysUnreadable (a .message) ≡ true → bearingOf n bytes ≡ unreadableMessage ∷ [])
 
 abbrev pub AdvisedByItsBytes : Type 0
 AdvisedByItsBytes =

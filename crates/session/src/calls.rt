@@ -4,12 +4,14 @@ use crate::Told;
 use crate::consistency;
 use crate::holding;
 use crate::messages;
+use crate::tables;
 use crate::writing;
 use conduct::Call;
 use conduct::Move;
 use conduct::Parting;
 use conduct::Remark;
 use conduct::State;
+use conduct::codes;
 use rules::moves;
 use rules::numbers;
 use rules::states;
@@ -41,7 +43,7 @@ fn refusal_of(s: Session, call: Call) -> u32
     if !states::is_push(call) {
         return 0;
     }
-    if table.count < 32 { 0 } else { 7 }
+    if table.count < tables::MOST { 0 } else { 7 }
 }
 
 // What an accepted call does, before the numbers are given.
@@ -53,12 +55,15 @@ fn move_of(s: Session, held: &[u32], call: Call) -> Move
     let state = s.state;
     match call {
         Call::Tick => moves::tick(s.interval, numbers::next_free(held, s.last), state),
-        Call::Connected => moves::goes(State::Opening(0), Remark::Note(2, 0)),
+        Call::Connected => moves::goes(
+            State::Opening(0),
+            Remark::Note(codes::SEND_SESSION_OPEN_REQUEST, 0),
+        ),
         Call::Lost => moves::waits(Parting::Nothing),
         Call::Stop => moves::stop(state),
-        Call::Give(what, handle) => moves::goes(state, Remark::Send(what, handle)),
+        Call::Push(what, handle) => moves::goes(state, Remark::Send(what, handle)),
         Call::Heard(m) => messages::heard(s, held, m),
-        Call::Unreadable(refusal) => moves::goes(state, Remark::Note(16, refusal)),
+        Call::Unreadable(refusal) => moves::goes(state, Remark::Note(codes::UNREADABLE, refusal)),
     }
 }
 

@@ -132,15 +132,15 @@ impl Session {
 
     // The host pushes a Response, or an Advisory.
     pub fn respond(self, handle: u32, places: usize) -> Told
-        ensures { λ r. ⌜ r ≡ Answers·told places self (variants.Give pushed.Response handle) ⌝ }
+        ensures { λ r. ⌜ r ≡ Answers·told places self (variants.Push pushed.Response handle) ⌝ }
     {
-        self.told(Call::Give(Pushed::Response, handle), places)
+        self.told(Call::Push(Pushed::Response, handle), places)
     }
 
     pub fn advise(self, handle: u32, places: usize) -> Told
-        ensures { λ r. ⌜ r ≡ Answers·told places self (variants.Give pushed.Advisory handle) ⌝ }
+        ensures { λ r. ⌜ r ≡ Answers·told places self (variants.Push pushed.Advisory handle) ⌝ }
     {
-        self.told(Call::Give(Pushed::Advisory, handle), places)
+        self.told(Call::Push(Pushed::Advisory, handle), places)
     }
 
     // A message that the reader has read, and the reader's refusal of one.

@@ -7,6 +7,7 @@ use conduct::Parting;
 use conduct::Remark;
 use conduct::State;
 use conduct::Sweep;
+use conduct::codes;
 use message::Advice;
 use message::Message;
 use message::Number;
@@ -71,7 +72,7 @@ fn ok_naming(s: Session, held: &[u32], n: u32) -> Move
         State::Opening(_) => moves::unmatched(state),
         State::Confirming(number, age) => {
             if n == number {
-                moves::goes(State::Up(Awaited::Nothing, age), Remark::Note(8, 0))
+                moves::goes(State::Up(Awaited::Nothing, age), Remark::Note(codes::UP, 0))
             } else {
                 moves::unmatched(state)
             }
@@ -121,7 +122,10 @@ fn advisory_naming(s: Session, held: &[u32], advice: Advice, n: u32) -> Move
         }
         State::Up(awaited, age) => {
             if heard::is_awaited(awaited, n) {
-                moves::goes(State::Up(Awaited::Nothing, age), Remark::Note(17, 0))
+                moves::goes(
+                    State::Up(Awaited::Nothing, age),
+                    Remark::Note(codes::ADVISORY_ARRIVED, 0),
+                )
             } else if numbers::is_among(held, n) {
                 moves::touches(state, heard::advises(advice, n))
             } else {
@@ -155,7 +159,7 @@ fn advised(s: Session, held: &[u32], m: Message) -> Move
         return advised_about(s, held, heard::advice_by(m.advisory_type), number);
     }
     let state = s.state;
-    moves::goes(state, Remark::Note(17, 0))
+    moves::goes(state, Remark::Note(codes::ADVISORY_ARRIVED, 0))
 }
 
 fn acted(s: Session, held: &[u32], m: Message, action: Action) -> Move
@@ -164,14 +168,14 @@ fn acted(s: Session, held: &[u32], m: Message, action: Action) -> Move
 {
     let state = s.state;
     match action {
-        Action::OutOfPlace => moves::goes(state, Remark::Note(14, 0)),
+        Action::OutOfPlace => moves::goes(state, Remark::Note(codes::OUT_OF_PLACE, 0)),
         Action::Answer => moves::answered(
             numbers::next_free(held, s.last),
             heard::status_by(m.status),
         ),
         Action::Acknowledge => acknowledged(s, held, heard::named_by(m.in_response_to)),
         Action::Advise => advised(s, held, m),
-        Action::Request => moves::goes(state, Remark::Note(13, 0)),
+        Action::Request => moves::goes(state, Remark::Note(codes::REQUEST_ARRIVED, 0)),
     }
 }
 

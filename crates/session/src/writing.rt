@@ -11,6 +11,7 @@ use conduct::Push;
 use conduct::Pushed;
 use conduct::Remark;
 use conduct::Sweep;
+use conduct::codes;
 use rules::numbers;
 use rules::pushes;
 ghost use mathlib.Core.Path.{_≡_};
@@ -116,11 +117,21 @@ fn parted(held: &[u32], last: u32, parting: Parting) -> Written
     };
     match parting {
         Parting::Nothing => nothing,
-        Parting::Disconnect => noted(held, nothing, 7, 0),
-        Parting::GoingOut => noted(held, noted(held, nothing, 19, 0), 7, 0),
+        Parting::Disconnect => noted(held, nothing, codes::DISCONNECT, 0),
+        Parting::GoingOut => noted(
+            held,
+            noted(held, nothing, codes::SEND_GOING_OUT_OF_SERVICE, 0),
+            codes::DISCONNECT,
+            0,
+        ),
         Parting::Alert => {
-            let alerted = noted(held, nothing, 18, 0);
-            noted(held, noted(held, alerted, 19, 0), 7, 0)
+            let alerted = noted(held, nothing, codes::SEND_ALERT, 0);
+            noted(
+                held,
+                noted(held, alerted, codes::SEND_GOING_OUT_OF_SERVICE, 0),
+                codes::DISCONNECT,
+                0,
+            )
         }
     }
 }
@@ -167,8 +178,8 @@ fn sending(what: Pushed) -> u32
     ensures { λ r. ⌜ r ≡ Codes·sending what ⌝ }
 {
     match what {
-        Pushed::Response => 4,
-        Pushed::Advisory => 6,
+        Pushed::Response => codes::SEND_RESPONSE,
+        Pushed::Advisory => codes::SEND_ADVISORY,
     }
 }
 

@@ -16,10 +16,10 @@ use Rattle.replay.proofs.Words.{a-number, no-number, begins-long}
 
 -- the calls that a number names
 abbrev response : ℕ → Line
-response n = lines.Other (calls.Give pushed.Response n)
+response n = lines.Other (calls.Push pushed.Response n)
 
 abbrev advisory : ℕ → Line
-advisory n = lines.Other (calls.Give pushed.Advisory n)
+advisory n = lines.Other (calls.Push pushed.Advisory n)
 
 abbrev unreadable : ℕ → Line
 unreadable n = lines.Other (calls.Unreadable n)
