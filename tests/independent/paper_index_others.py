@@ -114,7 +114,7 @@ NOT_RUN = (
     ("01: an event list shorter than 40, in the real session", "the list lies inside `replay`; the model's test covers the rule"),
     ("01: CR LF as one LF or one space in a value", "no value with a meaning holds white space, so only \"other\" is seen"),
     ("Rulings: `end` caps with the count", "it takes a stream of 4 GiB; framing's `cap-*` run the count itself"),
-    ("000: Figures 2 to 14, 004: Figure 22", "pictures, lost in the crawl"),
+    ("000: Figures 2 to 14, 004: Figure 22", "pictures, which the copy at hand does not have"),
     ("004: sections 6 and 7, Figures 25 to 27", "samples of the SOAP and ESMI bindings, which document 01 leaves out"),
     ("001, 002, 003", "no message of this link stands in them"),
 )
