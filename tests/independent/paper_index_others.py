@@ -25,7 +25,7 @@ READ = ("ali_read", (
 REPLAY = ("replay", (
     ("`interval N`; 100 where absent; the last counts", "replay:interval 22", "replay:no interval is 100",
      "replay:the last interval counts"),
-    ("what ends the settings; a setting after it is bad", "replay:a setting after a call", "replay:a setting after a bad line",
+    ("what ends the settings; one that comes later", "replay:a setting after a call", "replay:a setting after a bad line",
      "replay:no setting: *"),
     ("`tick`, `tick N`, 1 to 1,000,000", "replay:tick and tick 1", "replay:a million ticks", "replay:bad lines"),
     ("`connected`, `lost`, `stop`", "replay:lost in Opening", "replay:stop in Opening"),
