@@ -154,9 +154,15 @@ def draw_closings(picture):
         draw_both(picture, 490, 1399, named("up-left"))
 
 
+def leaves(one):
+    """Where a move begins. What a Response that was sent again and an Advisory have in common is drawn once."""
+    shared = one.first == AGAIN and any(start == ADVISORY for start, _ in one.trials)
+    return "%s, or %s" % (AGAIN, ADVISORY) if shared else one.first or "Up"
+
+
 def session_words():
     """The whole picture in words."""
-    words = ["%s, to %s: %s; %s." % (one.first or "Up", one.last, one.call, ", ".join(said(one))) for one in MOVES + HEARTBEAT + PUSHES]
+    words = ["%s, to %s: %s; %s." % (leaves(one), one.last, one.call, ", ".join(said(one))) for one in MOVES + HEARTBEAT + PUSHES]
     return " ".join(words + ["%s, stays: %s; %s." % (one.first, one.call, ", ".join(said(one))) for one in STAYS])
 
 

@@ -92,7 +92,7 @@ def without_marks(marked):
 
 
 def spelled_right(sample):
-    """The letters that the crawled paper lost, put back."""
+    """The letters that the copy at hand has lost, put back."""
     for lost, whole in ((b"urn:ena-org", b"urn:nena-org"), (b"urn:nen-org", b"urn:nena-org"), (b":dtc:ags", b":dtc:aqs")):
         sample = sample.replace(lost, whole)
     return sample

@@ -25,7 +25,7 @@ READ = ("ali_read", (
 REPLAY = ("replay", (
     ("`interval N`; 100 where absent; the last counts", "replay:interval 22", "replay:no interval is 100",
      "replay:the last interval counts"),
-    ("what ends the settings; a setting after it is bad", "replay:a setting after a call", "replay:a setting after a bad line",
+    ("what ends the settings; one that comes later", "replay:a setting after a call", "replay:a setting after a bad line",
      "replay:no setting: *"),
     ("`tick`, `tick N`, 1 to 1,000,000", "replay:tick and tick 1", "replay:a million ticks", "replay:bad lines"),
     ("`connected`, `lost`, `stop`", "replay:lost in Opening", "replay:stop in Opening"),
@@ -114,7 +114,7 @@ NOT_RUN = (
     ("01: an event list shorter than 40, in the real session", "the list lies inside `replay`; the model's test covers the rule"),
     ("01: CR LF as one LF or one space in a value", "no value with a meaning holds white space, so only \"other\" is seen"),
     ("Rulings: `end` caps with the count", "it takes a stream of 4 GiB; framing's `cap-*` run the count itself"),
-    ("000: Figures 2 to 14, 004: Figure 22", "pictures, lost in the crawl"),
+    ("000: Figures 2 to 14, 004: Figure 22", "pictures, which the copy at hand does not have"),
     ("004: sections 6 and 7, Figures 25 to 27", "samples of the SOAP and ESMI bindings, which document 01 leaves out"),
     ("001, 002, 003", "no message of this link stands in them"),
 )

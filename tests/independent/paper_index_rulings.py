@@ -2,7 +2,7 @@
 
 FRAMING = ("Framing", (
     ("order 1, 2, 26", "framing:order-p40-*"),
-    ("a refused call hands back g and m as given", "framing:refused-between"),
+    ("a refused call leaves g and m", "framing:refused-between"),
     ("matching goes on from m; the store is not looked at", "framing:pair-*", "framing:mislead-*"),
     ("bytes written from g on, below 65,520 + k; none above", "framing:lay-*"),
     ("the store keeps a completed item", "framing:example-aab-whole"),
@@ -13,15 +13,15 @@ FRAMING = ("Framing", (
 ))
 
 PLACES = ("Reader, places and precedence", (
-    ("an empty message is 9 at 0", "reader:refused-empty"),
+    ("the empty message: 9 at 0", "reader:refused-empty"),
     ("one that ends too soon is 9 at its length", "reader:refused-ends-too-soon"),
     ("`<?`, `<?xm`, `<?xml` cut off: 12 at 0", "reader:refused-pi-cut-2", "reader:refused-pi-cut-4",
      "reader:refused-pi-cut-5"),
     ("`<!DOCTYP` cut off", "reader:refused-doctype-cut"),
-    ("`<?xml ` then a fault: 9 at the fault", "reader:refused-declaration-fault"),
+    ("a fault behind `<?xml `: 9 there", "reader:refused-declaration-fault"),
     ("`version=\"1.1\"`, `standalone`, `encoding=\"Utf-8\"`", "reader:refused-declaration-version-1.1",
      "reader:refused-declaration-standalone", "reader:refused-declaration-Utf-8"),
-    ("single quotes, white space round `=` and before `?>`", "reader:read-declared-loosely"),
+    ("single quotes; blanks about `=`, and before `?>`", "reader:read-declared-loosely"),
     ("`<?xml ` anywhere but place 0: 12", "reader:refused-declaration-after-space", "reader:refused-declaration-in-root",
      "reader:refused-declaration-after-root"),
     ("12 before, in and after the root", *("reader:refused-%s-%s" % (opening, where)
@@ -41,16 +41,16 @@ PLACES = ("Reader, places and precedence", (
      "reader:refused-17th-xmlns"),
     ("`<ab></a>` at the `>`", "reader:refused-end-tag-short"),
     ("character numbers: leading zeros", "reader:read-numbers"),
-    ("dead at the digit that passes 0x10FFFF", "reader:refused-number-passes-hex", "reader:refused-number-passes-decimal"),
+    ("a digit too many: beyond 0x10FFFF", "reader:refused-number-passes-hex", "reader:refused-number-passes-decimal"),
     ("other illegal numbers at the `;`", "reader:refused-number-0", "reader:refused-number-D800",
      "reader:refused-number-FFFE"),
     ("`&#X` at `X`", "reader:refused-number-X"),
-    ("named references at the first byte that fits none", "reader:refused-named-other", "reader:refused-named-late"),
+    ("named references: where no name fits any more", "reader:refused-named-other", "reader:refused-named-late"),
     ("C0, C1, F5 to FF, lone 80 to BF at once", "reader:refused-byte-c0", "reader:refused-byte-c1", "reader:refused-byte-f5",
      "reader:refused-byte-ff", "reader:refused-byte-80", "reader:refused-byte-bf"),
-    ("E0 9F, ED A0, F0 8F, F4 90 at the second byte", "reader:refused-utf8-e0-9f", "reader:refused-utf8-ed-a0",
+    ("E0 9F, ED A0, F0 8F, F4 90: second byte", "reader:refused-utf8-e0-9f", "reader:refused-utf8-ed-a0",
      "reader:refused-utf8-f0-8f", "reader:refused-utf8-f4-90"),
-    ("U+FFFE and U+FFFF at the third", "reader:refused-utf8-fffe", "reader:refused-utf8-ffff"),
+    ("U+FFFE, U+FFFF: third byte", "reader:refused-utf8-fffe", "reader:refused-utf8-ffff"),
     ("U+FEFF at the start and elsewhere; U+007F, U+0080 to 9F", "reader:refused-bom", "reader:read-characters"),
     ("`]]>` in text at `>`; parted it is fine", "reader:refused-brackets", "reader:read-brackets-comment",
      "reader:read-brackets-tag", "reader:read-brackets-reference"),
@@ -70,7 +70,7 @@ MESSAGES = ("Reader, messages", (
      "reader:none-advisory-other-child", "reader:none-two-children-other"),
     ("text, comments and what is inside the child are free", "reader:read-text-around-child",
      "reader:read-inside-child-free"),
-    ("on the child, never on the root", "reader:read-advisory-related-on-root", "reader:none-child-ID-on-root",
+    ("values of the child that stand on the root", "reader:read-advisory-related-on-root", "reader:none-child-ID-on-root",
      "reader:read-response-to-on-root"),
     ("the first AdvisoryType, also empty or holding an element", "reader:read-advisory-empty-tag-first",
      "reader:read-advisory-element-first", "reader:none-advisory-type-deeper"),
@@ -87,7 +87,7 @@ MESSAGES = ("Reader, messages", (
 
 LISTING = ("Listing", (
     ("a CR belongs to the boundary", "items:CR belongs to the boundary"),
-    ("`end` counts a begun boundary", "items:a boundary begun waits"),
+    ("`end` counts bytes of a boundary that has begun", "items:a boundary begun waits"),
     ("too long: `n - - 8 0`", "items:too long"),
 ))
 
@@ -112,7 +112,7 @@ SESSION = ("Session", (
     ("UnreadableMessage for a Response sent twice", "replay:UnreadableMessage twice",
      "replay:UnreadableMessage after the resend by time"),
     ("a resend keeps number and order", "replay:a resend keeps the order"),
-    ("both kinds of push count to the 32 and get 12", "replay:32 pushes open", "session:full-*",
+    ("Responses and Advisories among the 32, each closed by 12", "replay:32 pushes open", "session:full-*",
      "replay:lost with pushes open"),
     ("an ending tick: 19, 7, then the 12s", "replay:the session's timer goes before pushes due"),
     ("lost in Up: the 12s alone", "replay:lost with pushes open"),
@@ -137,7 +137,7 @@ DIFFERENCES = ("Differences between the papers", (
     ("SessionClose messages are 13", "replay:004, 5.6.1: a session is not closed by messages"),
     ("VersionMismatch is any other status; the version is not looked at", "replay:000, Table 3: VersionMismatch",
      "reader:paper-000-table-2-version-other"),
-    ("GoingOutOfService from the centre is only reported",
+    ("GoingOutOfService of the centre",
      "replay:000, 7.4.4: GoingOutOfService from the centre is only reported"),
     ("wrong-way messages: 14", "replay:000, 7.4.10: Response, SessionOpenRequest and SessionOk from the centre"),
 ))
