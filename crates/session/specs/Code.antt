@@ -8,13 +8,14 @@ use Prim.Native.Nat.{ℕ, _≤_, _<_}
 use lib.Dec.{leb, ltb, eqb}
 use lib.ListN.{length}
 use Rattle.conduct.specs.declared.Call.{Call}
+use Rattle.conduct.specs.declared.Event.{Event}
 use Rattle.conduct.specs.declared.State.the-variants.{Stopped}
-use Rattle.conduct.specs.Lists.{all}
+use Rattle.conduct.specs.Lists.{those}
 use Rattle.conduct.specs.Session.{fresh}
 use Rattle.conduct.specs.History.{Entry, history}
 use Rattle.session.specs.Rows.{rowsOf, eventsOf, listOf}
 use Rattle.session.specs.Record.{sessionOf, recordOf, consistent, madeOf}
-use Rattle.session.specs.Answers.{told}
+use Rattle.session.specs.Answers.{told, written}
 use Rattle.session.specs.declared.Session.{Session as Record}
 use Rattle.session.specs.declared.Told.{Told}
 
@@ -40,14 +41,17 @@ abbrev pub answers : Record → List Asked → List Entry
 answers d [] = []
 answers d (a ∷ rest) = seen (a .call) (toldBy d a) ∷ answers (toldBy d a .next) rest
 
--- with no list too short, from any record that passes the test
+-- A call with too short a list is refused with 3 and leaves no trace: the other answers are the history of the other calls, from any record that passes the test.
 abbrev pub roomy : Asked → Bool
 roomy a = leb 40 (a .places)
 
+abbrev pub heeded : Entry → Bool
+heeded x = not (eqb (x .refusal) 3)
+
 abbrev pub AnswersAreHistory : Type 0
 AnswersAreHistory =
-    (d : Record) (asked : List Asked) → consistent d ≡ true → all roomy asked ≡ true
-    → answers d asked ≡ history (sessionOf d) (map (λ (a : Asked). a .call) asked)
+    (d : Record) (asked : List Asked) → consistent d ≡ true
+    → those heeded (answers d asked) ≡ history (sessionOf d) (map (λ (a : Asked). a .call) (those roomy asked))
 
 -- ---- 27 is for no record that was made, nor for one that calls with any lists reached from one that passes
 
@@ -78,11 +82,11 @@ ShortListRefused = (places : ℕ) (d : Record) (c : Call) → eqb (told places d
 abbrev pub InconsistentRefused : Type 0
 InconsistentRefused = (places : ℕ) (d : Record) (c : Call) → 40 ≤ places → eqb (told places d c .refusal) 27 ≡ not (consistent d)
 
--- a refused call hands back the record as it was, whatever is in it, and no event; each record of the code has 32 rows
+-- a refused call hands back the record as it was, whatever is in it, and no event, and leaves a lent list as it was; each record of the code has 32 rows
 abbrev pub RefusedReturnsTheOld : Type 0
 RefusedReturnsTheOld =
     (places : ℕ) (d : Record) (c : Call) → length (d .pushes .rows) ≡ 32 → (told places d c .refusal ≡ 0 → ⊥)
-    → (told places d c .next ≡ d) × (told places d c .events ≡ eventsOf [])
+    → (told places d c .next ≡ d) × (told places d c .events ≡ eventsOf []) × ((list : List Event) → written list (told places d c) ≡ list)
 
 -- ---- the events fit any list that is not refused
 
