@@ -12,7 +12,7 @@ use borrow.Author.Tests.{eq-eqb, ne-eqb, eqb-true, leb-true}
 use Rattle.laws.proofs.Tests.{true-false}
 use Rattle.conduct.specs.Lists.{only, those, some, all}
 use Rattle.conduct.specs.Pushes.{eventOf, older, sentAgain, isResponse, sentOnce, keptBy, toldBy}
-use Rattle.conduct.specs.History.{closing, Bearing}
+use Rattle.conduct.specs.History.{closing, isClosing, Bearing}
 use Rattle.conduct.specs.History.Bearing.{ticked, acknowledged, unreadableMessage, advised}
 use Rattle.conduct.specs.declared.Event.{Event}
 use Rattle.conduct.specs.declared.Push.{Push}
@@ -46,9 +46,6 @@ pub data Life : List Push → List Event → ℕ → List Push → Type 0 where
   gone : (t : ℕ) (rest : List Push) → Life [] [] t rest
   turned : (bs : List Bearing) (q : Push) (f : Fate) (es : List Event) (t : ℕ) (rest : List Push)
       → Turned bs q f → Life (keptBy f) es t rest → Life (q ∷ []) (toldBy f ++ es) (tickIn bs + t) rest
-
-abbrev pub isClosing : Event → Bool
-isClosing e = closing (e .code)
 
 abbrev pub isResending : Event → Bool
 isResending e = eqb (e .code) 5

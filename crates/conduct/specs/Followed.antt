@@ -10,7 +10,7 @@ use lib.ListN.{length}
 use Rattle.conduct.specs.Lists.{some, all}
 use Rattle.conduct.specs.Session.{Session}
 use Rattle.conduct.specs.Sound.{sound}
-use Rattle.conduct.specs.History.{Entry, history, ticks, bearing, closing, acknowledges, resends, gives, said, closings, resendings}
+use Rattle.conduct.specs.History.{Entry, history, ticks, bearing, isClosing, acknowledges, resends, gives, said, closings, resendings}
 use Rattle.conduct.specs.History.Bearing.{ticked, acknowledged, unreadableMessage}
 use Rattle.conduct.specs.declared.Event.{Event}
 use Rattle.conduct.specs.declared.Pushed.{Pushed}
@@ -36,7 +36,7 @@ pub record Followed (what : Pushed) (n h : ℕ) (rest : List Entry) : Type 0 whe
   -- it is closed at most once
   pub once : length (closings n rest) ≤ 1
   -- and what closes it is the last that is said of it
-  pub last-word : (a b : List Event) (e : Event) → said n rest ≡ a ++ e ∷ b → closing (e .code) ≡ true → b ≡ []
+  pub last-word : (a b : List Event) (e : Event) → said n rest ≡ a ++ e ∷ b → isClosing e ≡ true → b ≡ []
   -- sent by the event of its acceptance, and as often again at most
   pub resent : length (resendings n rest) ≤ mostResendings what
   -- closed by the end of so many accepted ticks

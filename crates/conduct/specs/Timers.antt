@@ -11,7 +11,7 @@ use Rattle.conduct.specs.Lists.{some, all}
 use Rattle.conduct.specs.Session.{Session, stateNumber, isUp}
 use Rattle.conduct.specs.Sound.{sound}
 use Rattle.conduct.specs.Step.{step, Answered}
-use Rattle.conduct.specs.History.{Entry, entry, history, sessionAfter, ticks, bearing, adviceBearing, closing}
+use Rattle.conduct.specs.History.{Entry, entry, history, sessionAfter, ticks, bearing, adviceBearing, ofPush}
 use Rattle.conduct.specs.History.Bearing.{ticked, acknowledged}
 use Rattle.conduct.specs.declared.Awaited.{Awaited}
 use Rattle.conduct.specs.declared.Awaited.the-variants as awaited
@@ -34,10 +34,6 @@ tickAfter s cs = step (sessionAfter s cs) calls.Tick
 -- all calls left the session in the state with this number
 abbrev pub stays : ℕ → Session → List Call → Type 0
 stays number s cs = all (λ (x : Entry). eqb (stateNumber (x .state)) number) (history s cs) ≡ true
-
--- said of an open push: sent again, or closed
-abbrev pub ofPush : Event → Bool
-ofPush e = closing (e .code) || eqb (e .code) 5
 
 abbrev pub saysSessionOk : List Event → Bool
 saysSessionOk es = some (λ (e : Event). eqb (e .code) 3) es

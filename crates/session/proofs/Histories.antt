@@ -1,6 +1,6 @@
 -- The promises of specs/Code: the answers of the code are the history of the session that the record holds, the records that it hands back
 -- pass the test, a refused call hands back what it took, and the events fit. Assumes nothing.
-use mathlib.Core.Path.{_≡_, refl, ap, ap₂, _∙_}
+use mathlib.Core.Path.{_≡_, refl, ap, _∙_}
 use mathlib.Core.Bool.{Bool, true, false, cond, not}
 use mathlib.Core.List.{List, [], _∷_, _++_, map}
 use mathlib.Core.Logic.{⊎-elim}
