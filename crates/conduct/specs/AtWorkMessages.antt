@@ -1,4 +1,4 @@
--- Promise 6, the rules at work: what is done with each kind in each linked state, and what values mean. (proofs/TableAtWork, ValuesAtWork)
+-- Promise: the rules at work: what is done with each kind in each linked state, and what values mean. (proofs/TableAtWork, ValuesAtWork)
 -- Assumes nothing.
 use mathlib.Core.Bool.{false}
 use mathlib.Core.List.{List, [], _∷_}

@@ -1,4 +1,4 @@
--- Promise 6, the rules at work: the numbers of messages. (proofs/NumbersAtWork)
+-- Promise: the rules at work: the numbers of messages. (proofs/NumbersAtWork)
 -- Assumes nothing.
 use mathlib.Core.List.{[], _∷_, _++_}
 use Rattle.conduct.specs.Session.{fresh}

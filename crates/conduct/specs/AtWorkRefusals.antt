@@ -1,4 +1,4 @@
--- Promise 6, the rules at work: making, refused calls, and the test behind 27. (proofs/MakingAtWork, RefusalsAtWork, SoundAtWork)
+-- Promise: the rules at work: making, refused calls, and the test behind 27. (proofs/MakingAtWork, RefusalsAtWork, SoundAtWork)
 -- Assumes nothing.
 use mathlib.Core.Path.{_≡_}
 use mathlib.Core.Bool.{true, false}

@@ -1,4 +1,4 @@
--- Promise 6, the rules at work: waiting, opening, confirming, heartbeats, endings. (proofs/WaitingAtWork, Opening…, Confirming…, Heartbeat…, Endings…, Stopped…)
+-- Promise: the rules at work: waiting, opening, confirming, heartbeats, endings. (proofs/WaitingAtWork, Opening…, Confirming…, Heartbeat…, Endings…, Stopped…)
 -- Assumes nothing.
 use mathlib.Core.Path.{_≡_}
 use mathlib.Core.List.{[], _∷_, _++_, map}

@@ -1,4 +1,4 @@
--- Promise 4, refusals, room and events of one call. (proofs/Refused, Counted, Few, Heartbeats, OneEvent, Carried)
+-- Promise: refusals, room and events of one call. (proofs/Refused, Counted, Few, Heartbeats, OneEvent, Carried)
 -- Assumes nothing.
 use mathlib.Core.Path.{_≡_}
 use mathlib.Core.Bool.{Bool, true, false, cond, not, _&&_, _||_}

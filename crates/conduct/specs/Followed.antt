@@ -1,4 +1,4 @@
--- Promise 1, demand 3 over every history: what holds of an accepted push from its acceptance on. (proofs/Trace)
+-- Promise: demand 3 over every history: what holds of an accepted push from its acceptance on. (proofs/Trace)
 -- Assumes nothing.
 use mathlib.Core.Path.{_≡_}
 use mathlib.Core.Bool.{true, false}
@@ -53,7 +53,7 @@ pub record Followed (what : Pushed) (n h : ℕ) (rest : List Entry) : Type 0 whe
   -- all that is said of it has its handle
   pub handled : all (λ (e : Event). eqb (e .detail) h) (said n rest) ≡ true
 
--- Of any calls on any session that can come about: an accepted push is sent by one event, whose number then names it, and is followed to its end.
+-- Of any calls on any session that passes the test behind 27: an accepted push is sent by one event, whose number then names it, and is followed to its end.
 abbrev pub EveryPushIsFollowed : Type 0
 EveryPushIsFollowed =
     (s : Session) (cs : List Call) (before rest : List Entry) (x : Entry) (what : Pushed) (h : ℕ)

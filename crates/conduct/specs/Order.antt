@@ -1,4 +1,4 @@
--- Promise 5, the order of events and numbers. (proofs/Acceptance, Leaving, Heartbeats, Taken)
+-- Promise: the order of events and numbers. (proofs/Acceptance, Leaving, Heartbeats, Taken)
 -- Assumes nothing.
 use mathlib.Core.Path.{_≡_}
 use mathlib.Core.Bool.{true, false}

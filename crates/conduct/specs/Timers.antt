@@ -1,4 +1,4 @@
--- Promise 9, the session's timers over any calls: how long it waits, opens and confirms, and when it sends a SessionOk. (proofs/WaitingTime, OpeningTime, ConfirmingTime,
+-- Promise: the session's timers over any calls: how long it waits, opens and confirms, and when it sends a SessionOk. (proofs/WaitingTime, OpeningTime, ConfirmingTime,
 -- Unheard, Answers, Sent, Intervals, Entered)
 -- Assumes nothing.
 use mathlib.Core.Path.{_≡_}

@@ -1,4 +1,4 @@
--- Promise 10, the twelve examples of document 01 ("The strength asked of the statements"): one table, one statement. (proofs/Twelve)
+-- Promise: the twelve examples of document 01 ("The strength asked of the statements"): one table, one statement. (proofs/Twelve)
 -- Assumes nothing.
 use mathlib.Core.Path.{_≡_}
 use mathlib.Core.Bool.{true}

@@ -92,7 +92,8 @@ fn tick_confirming(number: u32, age: u32) -> Move
     waits(Parting::GoingOut)
 }
 
-// In Up while no SessionOk is open: the heartbeat is due at the last tick of the interval.
+// In Up while no SessionOk is open: the heartbeat is due at the last tick of the interval. `age < interval` is tested first, so that an age past
+// the interval, which no consistent record has, does not overflow.
 fn tick_quiet(interval: u32, next: u32, age: u32) -> Move
     ensures { λ r. ⌜ r ≡ Rules.tick interval next (states.Up awaiting.Nothing age) ⌝ }
 {

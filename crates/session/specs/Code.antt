@@ -1,4 +1,4 @@
--- Promise 8, the code's answers are the history: what calls of a record answer, call by call, is what its session does. (proofs/Histories)
+-- Promise: the code's answers are the history: what calls of a record answer, call by call, is what its session does. (proofs/Histories)
 -- By their contracts the public calls answer `told`, so what is said here of `told` is said of the code. Assumes nothing.
 use mathlib.Core.Path.{_≡_}
 use mathlib.Core.Bool.{Bool, true, not}
@@ -41,7 +41,8 @@ abbrev pub answers : Record → List Asked → List Entry
 answers d [] = []
 answers d (a ∷ rest) = seen (a .call) (toldBy d a) ∷ answers (toldBy d a .next) rest
 
--- A call with too short a list is refused with 3 and leaves no trace: the other answers are the history of the other calls, from any record that passes the test.
+-- A call with too short a list is refused with 3 and leaves no trace: the other answers are the history of the other calls. From any record that passes
+-- the test.
 abbrev pub roomy : Asked → Bool
 roomy a = leb 40 (a .places)
 

@@ -1,4 +1,4 @@
--- Promise 7, what bears on a push, by the bytes of a message that is handed in: so that demand 3's "an Ok with its number" is said of bytes. (proofs/Heard)
+-- Promise: what bears on a push, by the bytes of a message that is handed in: so that demand 3's "an Ok with its number" is said of bytes. (proofs/Heard)
 -- Assumes nothing.
 use mathlib.Core.Path.{_≡_}
 use mathlib.Core.Bool.{true, false}
