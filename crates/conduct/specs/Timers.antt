@@ -107,9 +107,8 @@ HeardStaysUp =
 
 -- ---- a SessionOk every interval
 
--- Confirming or Up
-abbrev pub standing : State → Bool
-standing state = eqb (stateNumber state) 4 || eqb (stateNumber state) 5
+abbrev pub isConfirmingOrUp : State → Bool
+isConfirmingOrUp state = eqb (stateNumber state) 4 || eqb (stateNumber state) 5
 
 -- event 3 leaves its SessionOk open, with no tick counted
 abbrev pub SentIsOpen : Type 0
@@ -117,8 +116,8 @@ SentIsOpen =
     (s : Session) (c : Call) (a b : List Event) (e : Event) → step s c .events ≡ a ++ e ∷ b → e .code ≡ 3
     → (step s c .next .state ≡ Confirming (e .number) 0) ⊎ (step s c .next .state ≡ Up (awaited.Ok (e .number)) 0)
 
--- The SessionOk n was just sent; since then the session stands and sent no other. Then fewer ticks than the interval were accepted, and a tick says 3 exactly
--- if it is the last of it.
+-- The SessionOk n was just sent; since then the session is confirming or up and sent no other. Then fewer ticks than the interval were accepted, and a
+-- tick says 3 exactly if it is the last of it.
 pub record Due (s : Session) (cs : List Call) : Type 0 where
   pub shorter : ticks (history s cs) < s .interval
   pub quiet : suc (ticks (history s cs)) < s .interval → saysSessionOk (tickAfter s cs .events) ≡ false
@@ -127,7 +126,7 @@ pub record Due (s : Session) (cs : List Call) : Type 0 where
 abbrev pub EveryInterval : Type 0
 EveryInterval =
     (s : Session) (cs : List Call) (n : ℕ) → sound s ≡ true → (s .state ≡ Confirming n 0) ⊎ (s .state ≡ Up (awaited.Ok n) 0)
-    → all (λ (x : Entry). standing (x .state) && not (saysSessionOk (x .events))) (history s cs) ≡ true
+    → all (λ (x : Entry). isConfirmingOrUp (x .state) && not (saysSessionOk (x .events))) (history s cs) ≡ true
     → Due s cs
 
 -- the interval is that of the making

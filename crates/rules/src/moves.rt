@@ -168,8 +168,8 @@ pub fn answered(next: u32, status: Status) -> Move
     }
 }
 
-pub fn unmatched(state: State) -> Move
-    ensures { λ r. ⌜ r ≡ Rules.unmatched state ⌝ }
+pub fn matches_nothing(state: State) -> Move
+    ensures { λ r. ⌜ r ≡ Rules.matchesNothing state ⌝ }
 {
     goes(state, Remark::Note(codes::UNMATCHED, 0))
 }

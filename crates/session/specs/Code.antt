@@ -41,14 +41,14 @@ abbrev pub answers : Record → List Asked → List Entry
 answers d [] = []
 answers d (a ∷ rest) = seen (a .call) (toldBy d a) ∷ answers (toldBy d a .next) rest
 
--- A call with too short a list is refused with 3 and leaves no trace: the other answers are the history of the other calls. From any record that passes
--- the test.
+-- whether the list of a call is long enough, and whether an answer is another than that it is not
 abbrev pub roomy : Asked → Bool
 roomy a = leb 40 (a .places)
 
 abbrev pub heeded : Entry → Bool
 heeded x = not (eqb (x .refusal) 3)
 
+-- A call with too short a list is refused and leaves no trace: from any record that passes the test, the other answers are the history of the other calls.
 abbrev pub AnswersAreHistory : Type 0
 AnswersAreHistory =
     (d : Record) (asked : List Asked) → consistent d ≡ true

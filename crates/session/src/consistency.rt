@@ -26,7 +26,7 @@ pub(crate) fn is_consistent(s: Session) -> bool
     if !sound::is_state_sound(s.interval, state) {
         return false;
     }
-    if !sound::is_quiet(state, count) {
+    if !sound::is_count_sound(state, count) {
         return false;
     }
     if !table.all_sound() {
