@@ -155,15 +155,11 @@ pub fn stop(state: State) -> Move
 pub fn answered(next: u32, status: Status) -> Move
     ensures { λ r. ⌜ r ≡ Rules.answered next status ⌝ }
 {
+    let confirming = State::Confirming(next, 0);
+    let sent = Remark::Note(codes::SEND_SESSION_OK, 0);
     match status {
-        Status::Ok => goes(
-            State::Confirming(next, 0),
-            Remark::Note(codes::SEND_SESSION_OK, 0),
-        ),
-        Status::RedundantSession => goes(
-            State::Confirming(next, 0),
-            Remark::Note(codes::SEND_SESSION_OK, 0),
-        ),
+        Status::Ok => goes(confirming, sent),
+        Status::RedundantSession => goes(confirming, sent),
         Status::Other => waits(Parting::Disconnect),
     }
 }
