@@ -58,7 +58,7 @@ def faults_of_omission():
 
 def files_of_promises():
     for path in files("crates", "*", "specs", "*.antt"):
-        if os.path.basename(path) == "Promises.antt" or read(path).startswith("-- Promise "):
+        if os.path.basename(path) == "Promises.antt" or read(path).startswith(("-- Promise ", "-- Promise:")):
             yield path
 
 

@@ -1,6 +1,6 @@
 -- Where a message leads, by what the table has for its kind in the state. Assumes nothing.
 use mathlib.Core.Path.{_≡_, refl}
-use mathlib.Core.Bool.{Bool, true, false, cond, _&&_}
+use mathlib.Core.Bool.{Bool, true, false, cond}
 use mathlib.Core.Logic.{inl, inr}
 use Prim.Native.Nat.{ℕ, _-_}
 use native.Mathlib.Omega.{arith}
@@ -18,7 +18,7 @@ use Rattle.conduct.specs.Codes.{advisoryArrived}
 use Rattle.conduct.specs.Session.{Session, isLinked}
 use Rattle.conduct.specs.Table.{actionAt, actionOf}
 use Rattle.conduct.specs.Rules.{goes, note, answered, statusBy, adviceBy, namedBy, acknowledged, advisedAbout, nextNumber, acted}
-use Rattle.conduct.specs.History.{isUnreadableMessage}
+use Rattle.conduct.specs.History.{saysUnreadable}
 use Rattle.conduct.specs.declared.State.{State}
 use Rattle.conduct.specs.declared.State.the-variants.{Waiting, Connecting, Opening, Confirming, Up, Stopped}
 use Rattle.conduct.specs.declared.Action.{Action}
@@ -41,7 +41,7 @@ module _ (s : Session) (m : Message) where
   advised-onward k = go (m .«in_relation_to» .there) refl (m .«in_relation_to» .number) refl
     where
       unread : Bool
-      unread = m .«advisory_type» .there && isUnreadableMessage (m .«advisory_type» .advice)
+      unread = saysUnreadable m
 
       go : (b : Bool) → m .«in_relation_to» .there ≡ b → (v : Number) → m .«in_relation_to» .number ≡ v
           → From s m (s .state) (cond b (advisedAbout s (adviceBy (m .«advisory_type»)) v) (goes (s .state) (note advisoryArrived)))

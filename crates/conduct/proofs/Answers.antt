@@ -18,7 +18,7 @@ use Rattle.conduct.specs.Table.{actionOf}
 use Rattle.conduct.specs.Rules as rules
 use Rattle.conduct.specs.Rules.{goes, note, waits, adviceBy, namedBy, okNaming, advisoryNaming, advisedAbout, acted, moveOf}
 use Rattle.conduct.specs.Step.{Answered, answer, step}
-use Rattle.conduct.specs.History.{entry, namesNumber, names, isUnreadableMessage, Bearing, adviceBearing, messageBearing, callBearing, bearing}
+use Rattle.conduct.specs.History.{entry, namesNumber, names, Bearing, adviceBearing, saysUnreadable, messageBearing, callBearing, bearing}
 use Rattle.conduct.specs.History.Bearing.{ticked, acknowledged}
 use Rattle.conduct.specs.Timers.{codesOf, AnswerIsHeard}
 use Rattle.conduct.specs.declared.Awaited.the-variants as awaited
@@ -74,7 +74,7 @@ told n (calls.Push what handle) b e = none-is-some e
 told n (calls.Heard m) b e = go (m .kind) refl e
   where
     unread : Bool
-    unread = m .«advisory_type» .there && isUnreadableMessage (m .«advisory_type» .advice)
+    unread = saysUnreadable m
 
     go : (kind : Kind) → m .kind ≡ kind → messageBearing n m kind ≡ b ∷ [] → Told n (calls.Heard m) b
     go kinds.SessionOpenRequest k e = none-is-some e

@@ -24,7 +24,7 @@ use Rattle.conduct.specs.Session.{Session, isUp, awaitedNumbers, pushNum
 use Rattle.conduct.specs.Sound.{sound}
 use Rattle.conduct.specs.Table.{actionOf}
 use Rattle.conduct.specs.Rules as rules
-use Rattle.conduct.specs.Rules.{goes, touches, note, tick, namedBy, unmatched, advisedAbout, acted, moveOf}
+use Rattle.conduct.specs.Rules.{goes, touches, note, tick, namedBy, matchesNothing, advisedAbout, acted, moveOf}
 use Rattle.conduct.specs.History.{namesNumber, names, isUnreadableMessage, Bearing, adviceBearing, messageBearing, callBearing}
 use Rattle.conduct.specs.History.Bearing.{ticked, acknowledged, unreadableMessage, advised}
 use Rattle.conduct.specs.declared.Awaited.{Awaited}
@@ -129,7 +129,7 @@ module _ (n : ℕ) (p : Push) (own : p .number ≡ n) (interval last : ℕ) (wai
 
     -- a message that names the number m, where x: m is the open SessionOk's, and y: it is an open push's
     abbrev naming : (ℕ → Sweep) → Remark → ℕ → Bool → Bool → Move
-    naming f r m x y = cond x (goes (Up awaited.Nothing age) r) (cond y (touches (Up waiting age) (f m)) (unmatched (Up waiting age)))
+    naming f r m x y = cond x (goes (Up awaited.Nothing age) r) (cond y (touches (Up waiting age) (f m)) (matchesNothing (Up waiting age)))
 
     -- it is something to p just if m is n
     named-is : (b : Bearing) (f : ℕ → Sweep) (r : Remark) (m : ℕ)

@@ -9,7 +9,7 @@ use Rattle.conduct.specs.Numbers.{numbered, allNumbered}
 use Rattle.conduct.specs.Pushes.{tells}
 use Rattle.conduct.specs.Session.{Session, held}
 use Rattle.conduct.specs.Step.{noted, partingNotes, remarkNotes, eventsBy, Answered}
-use Rattle.conduct.specs.Bounds.{plain, bare, OnlyTheseCarry}
+use Rattle.conduct.specs.Bounds.{numberFits, detailFits, OnlyTheseCarry}
 use Rattle.conduct.specs.declared.Event.{Event}
 use Rattle.conduct.specs.declared.Pushed.{Pushed}
 use Rattle.conduct.specs.declared.Pushed.the-variants.{Response, Advisory}
@@ -34,19 +34,19 @@ module _ (test : Event → Bool) (s : Session)
       ∙ both (parting-pass test (held s) parting-says parting (s .last))
       (all-append test (flat (tells sweeps.Lost) (s .pushes)) [] ∙ both (told-pass test told sweeps.Lost (s .pushes)) refl)
 
-sent-plain : (s : Session) (what : Pushed) (handle : ℕ) → plain (numbered (held s) (s .last) (noted (sending what) handle)) ≡ true
-sent-plain s Response handle = refl
-sent-plain s Advisory handle = refl
+sent-number : (s : Session) (what : Pushed) (handle : ℕ) → numberFits (numbered (held s) (s .last) (noted (sending what) handle)) ≡ true
+sent-number s Response handle = refl
+sent-number s Advisory handle = refl
 
-sent-bare : (s : Session) (what : Pushed) (handle : ℕ) → bare (numbered (held s) (s .last) (noted (sending what) handle)) ≡ true
-sent-bare s Response handle = refl
-sent-bare s Advisory handle = refl
+sent-detail : (s : Session) (what : Pushed) (handle : ℕ) → detailFits (numbered (held s) (s .last) (noted (sending what) handle)) ≡ true
+sent-detail s Response handle = refl
+sent-detail s Advisory handle = refl
 
 pub only-these-carry : OnlyTheseCarry
 only-these-carry s c =
-    by-moves (λ (a : Answered). (all plain (a .events) ≡ true) × (all bare (a .events) ≡ true)) s c
+    by-moves (λ (a : Answered). (all numberFits (a .events) ≡ true) × (all detailFits (a .events) ≡ true)) s c
     (λ m u. (
-      move-pass plain s (λ n d. refl) (λ l. refl) refl (λ r. refl) (sent-plain s) m u,
-      move-pass bare s (λ n d. refl) (λ l. refl) refl (λ r. refl) (sent-bare s) m u,
+      move-pass numberFits s (λ n d. refl) (λ l. refl) refl (λ r. refl) (sent-number s) m u,
+      move-pass detailFits s (λ n d. refl) (λ l. refl) refl (λ r. refl) (sent-detail s) m u,
     ))
     (λ k. (refl, refl))

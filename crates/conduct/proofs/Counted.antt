@@ -11,7 +11,7 @@ use Rattle.conduct.specs.Numbers.{numbered, allNumbered, nextFree}
 use Rattle.conduct.specs.Pushes.{toldBy, keptBy, keeps, tells, fateOf}
 use Rattle.conduct.specs.Session.{Session, held}
 use Rattle.conduct.specs.Step.{noted, partingNotes, remarkNotes, opens, eventsBy, movedBy, Answered, step}
-use Rattle.conduct.specs.History.{firstSending, history, eventsIn}
+use Rattle.conduct.specs.History.{firstSending, isClosing, history, eventsIn}
 use Rattle.conduct.specs.Bounds.{sendings, closed, OpenAreCounted}
 use Rattle.conduct.specs.Order.{acceptance}
 use Rattle.conduct.specs.declared.Event.{Event}
@@ -31,7 +31,6 @@ use Rattle.conduct.proofs.Sweeps.{Of, fate-of}
 use Rattle.conduct.proofs.Moves.{usual, Usual, stays, departs, by-moves}
 use Rattle.conduct.proofs.Acceptance.{remark-accepts}
 use Rattle.conduct.proofs.Said.{told-fails, parting-fails, remark-fails}
-use Rattle.conduct.proofs.Story.{isClosing}
 
 count-append : (test : Event → Bool) (xs ys : List Event)
     → length (those test (xs ++ ys)) ≡ length (those test xs) + length (those test ys)

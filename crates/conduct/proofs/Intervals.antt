@@ -15,7 +15,7 @@ use Rattle.conduct.specs.Sound.{soundState, sound}
 use Rattle.conduct.specs.Rules.{tick, nextNumber}
 use Rattle.conduct.specs.Step.{Answered, step}
 use Rattle.conduct.specs.History.{Entry, entry, history, sessionAfter, ticks}
-use Rattle.conduct.specs.Timers.{saysSessionOk, standing, EveryInterval, IntervalKept}
+use Rattle.conduct.specs.Timers.{saysSessionOk, isConfirmingOrUp, EveryInterval, IntervalKept}
 use Rattle.conduct.specs.declared.Awaited.the-variants as awaited
 use Rattle.conduct.specs.declared.State.{State}
 use Rattle.conduct.specs.declared.State.the-variants.{Waiting, Connecting, Opening, Confirming, Up, Stopped}
@@ -31,7 +31,7 @@ use Rattle.conduct.proofs.Onward.Onward.{same, opens, answers, confirms
 use Rattle.conduct.proofs.Clocks.{counts, by-turns, tick-taken, plus-none, counted}
 use Rattle.conduct.proofs.Sent.{heartbeat-due, says-by}
 
--- the ticks since the last SessionOk, where the session stands
+-- the ticks since the last SessionOk, where the session is confirming or up
 abbrev since : State → ℕ
 since (Waiting left) = 0
 since Connecting = 0
@@ -42,20 +42,20 @@ since Stopped = 0
 
 -- ---- a tick
 
--- one that leaves the session standing and sends no other counts as one
-tick-counts : (interval next : ℕ) (state : State) → standing state ≡ true → standing (tick interval next state .to) ≡ true
+-- one that leaves the session confirming or up and sends no other counts as one
+tick-counts : (interval next : ℕ) (state : State) → isConfirmingOrUp state ≡ true → isConfirmingOrUp (tick interval next state .to) ≡ true
     → isSessionOk (tick interval next state .remark) ≡ false → since (tick interval next state .to) ≡ since state + 1
 tick-counts interval next (Waiting left) h = absurd (true-false h refl)
 tick-counts interval next Connecting h = absurd (true-false h refl)
 tick-counts interval next (Opening age) h = absurd (true-false h refl)
 tick-counts interval next (Confirming number age) h =
-    cond-cases (λ (m : Move). standing (m .to) ≡ true → isSessionOk (m .remark) ≡ false → since (m .to) ≡ age + 1) (ltb age 19)
+    cond-cases (λ (m : Move). isConfirmingOrUp (m .to) ≡ true → isSessionOk (m .remark) ≡ false → since (m .to) ≡ age + 1) (ltb age 19)
     (λ l t q. refl) (λ l t q. absurd (true-false t refl))
 tick-counts interval next (Up (awaited.Ok number) age) h =
-    cond-cases (λ (m : Move). standing (m .to) ≡ true → isSessionOk (m .remark) ≡ false → since (m .to) ≡ age + 1) (ltb age 19)
+    cond-cases (λ (m : Move). isConfirmingOrUp (m .to) ≡ true → isSessionOk (m .remark) ≡ false → since (m .to) ≡ age + 1) (ltb age 19)
     (λ l t q. refl) (λ l t q. absurd (true-false t refl))
 tick-counts interval next (Up awaited.Nothing age) h =
-    cond-cases (λ (m : Move). standing (m .to) ≡ true → isSessionOk (m .remark) ≡ false → since (m .to) ≡ age + 1) (ltb (age + 1) interval)
+    cond-cases (λ (m : Move). isConfirmingOrUp (m .to) ≡ true → isSessionOk (m .remark) ≡ false → since (m .to) ≡ age + 1) (ltb (age + 1) interval)
     (λ l t q. refl) (λ l t q. absurd (true-false refl q))
 tick-counts interval next Stopped h = absurd (true-false h refl)
 
@@ -77,7 +77,7 @@ rests-due : (interval next age : ℕ) → suc age ≡ interval → Says true (ti
 rests-due interval next age e =
     rw (heartbeat-due interval next age (never (ltb (age + 1) interval) (λ l. omega (arith, ltb-true (age + 1) interval l))))
 
-tick-says : (interval next : ℕ) (state : State) → 21 ≤ interval → standing state ≡ true → soundState interval state ≡ true
+tick-says : (interval next : ℕ) (state : State) → 21 ≤ interval → isConfirmingOrUp state ≡ true → soundState interval state ≡ true
     → Ticks interval next state
 tick-says interval next (Waiting left) i h t = absurd (true-false h refl)
 tick-says interval next Connecting i h t = absurd (true-false h refl)
@@ -106,27 +106,27 @@ tick-says interval next Stopped i h t = absurd (true-false h refl)
 
 -- ---- any call
 
--- one that is no tick and leaves the session standing leaves the ticks
-onward-counts : {next : ℕ} {c : Call} {from : State} (m : Move) → Onward next c from m → standing from ≡ true → standing (m .to) ≡ true
+-- one that is no tick and leaves the session confirming or up leaves the ticks
+onward-counts : {next : ℕ} {c : Call} {from : State} (m : Move) → Onward next c from m → isConfirmingOrUp from ≡ true → isConfirmingOrUp (m .to) ≡ true
     → since (m .to) ≡ since from
 onward-counts m (same e q) h t = ap since e
-onward-counts m (opens f to q) h t = absurd (true-false h (ap standing f))
-onward-counts m (answers age f to) h t = absurd (true-false h (ap standing f))
+onward-counts m (opens f to q) h t = absurd (true-false h (ap isConfirmingOrUp f))
+onward-counts m (answers age f to) h t = absurd (true-false h (ap isConfirmingOrUp f))
 onward-counts m (confirms n age f to q) h t = ap since to ∙ sym (ap since f)
 onward-counts m (hears n age f to q b) h t = ap since to ∙ sym (ap since f)
-onward-counts m (ends more to q) h t = absurd (true-false t (ap standing to))
-onward-counts m (stops to q) h t = absurd (true-false t (ap standing to))
+onward-counts m (ends more to q) h t = absurd (true-false t (ap isConfirmingOrUp to))
+onward-counts m (stops to q) h t = absurd (true-false t (ap isConfirmingOrUp to))
 
 record Since (interval a : ℕ) (s : Session) : Type 0 where
   its-interval : s .interval ≡ interval
-  stands : standing (s .state) ≡ true
+  stands : isConfirmingOrUp (s .state) ≡ true
   aged : since (s .state) ≡ a
 
-one-more : (s : Session) (c : Call) (interval a : ℕ) → Since interval a s → standing (entry s c .state) ≡ true
+one-more : (s : Session) (c : Call) (interval a : ℕ) → Since interval a s → isConfirmingOrUp (entry s c .state) ≡ true
     → saysSessionOk (entry s c .events) ≡ false → Since interval (a + counts c (step s c)) (step s c .next)
 one-more s c interval a h =
     by-turns
-    (λ (k : ℕ) (r : Answered). standing (r .next .state) ≡ true → saysSessionOk (r .events) ≡ false → Since interval (a + k) (r .next)) s c
+    (λ (k : ℕ) (r : Answered). isConfirmingOrUp (r .next .state) ≡ true → saysSessionOk (r .events) ≡ false → Since interval (a + k) (r .next)) s c
     (λ k t q. record { its-interval = h .its-interval; stands = t; aged = h .aged ∙ sym (plus-none a) })
     (λ m o t q. record { its-interval = h .its-interval; stands = t; aged = onward-counts m o (h .stands) t ∙ (h .aged ∙ sym (plus-none a)) })
     (λ e t q.
@@ -137,7 +137,7 @@ one-more s c interval a h =
 -- ---- over any calls
 
 abbrev unsent : Entry → Bool
-unsent x = standing (x .state) && not (saysSessionOk (x .events))
+unsent x = isConfirmingOrUp (x .state) && not (saysSessionOk (x .events))
 
 since-sent : (interval : ℕ) (cs : List Call) (s : Session) → sound s ≡ true → Since interval 0 s → all unsent (history s cs) ≡ true
     → Since interval (ticks (history s cs)) (sessionAfter s cs)
@@ -145,15 +145,15 @@ since-sent interval cs s ok h k =
     counted (Since interval) (λ (xs : List Entry). all unsent xs ≡ true)
     (λ t c xs a ok h k.
     let b = both-of (unsent (entry t c)) (all unsent xs) k in
-    let q = both-of (standing (entry t c .state)) _ (b .0) in
+    let q = both-of (isConfirmingOrUp (entry t c .state)) _ (b .0) in
     (one-more t c interval a h (q .0) (not-true (saysSessionOk (entry t c .events)) (q .1)), b .1))
     cs s ok h k
 
 at-first : (s : Session) (n : ℕ) → (s .state ≡ Confirming n 0) ⊎ (s .state ≡ Up (awaited.Ok n) 0) → Since (s .interval) 0 s
-at-first s n (inl e) = record { its-interval = refl; stands = ap standing e; aged = ap since e }
-at-first s n (inr e) = record { its-interval = refl; stands = ap standing e; aged = ap since e }
+at-first s n (inl e) = record { its-interval = refl; stands = ap isConfirmingOrUp e; aged = ap since e }
+at-first s n (inr e) = record { its-interval = refl; stands = ap isConfirmingOrUp e; aged = ap since e }
 
-going : (state : State) → standing state ≡ true → isStopped state ≡ false
+going : (state : State) → isConfirmingOrUp state ≡ true → isStopped state ≡ false
 going (Waiting left) h = refl
 going Connecting h = refl
 going (Opening age) h = refl
@@ -161,8 +161,8 @@ going (Confirming number age) h = refl
 going (Up waiting age) h = refl
 going Stopped h = absurd (true-false h refl)
 
--- what a tick says where the session stands
-tick-events : (t : Session) → standing (t .state) ≡ true
+-- what a tick says where the session is confirming or up
+tick-events : (t : Session) → isConfirmingOrUp (t .state) ≡ true
     → saysSessionOk (step t calls.Tick .events) ≡ isSessionOk (tick (t .interval) (nextNumber t) (t .state) .remark)
 tick-events t h =
     ap (λ (r : Answered). saysSessionOk (r .events)) (tick-taken t (t .state) refl (going (t .state) h))

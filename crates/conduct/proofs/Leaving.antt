@@ -12,7 +12,8 @@ use Rattle.conduct.specs.Numbers.{numbered, allNumbered}
 use Rattle.conduct.specs.Pushes.{sentOnce, againOr, fateOf, toldBy, keeps, tells}
 use Rattle.conduct.specs.Session.{Session, isUp, held}
 use Rattle.conduct.specs.Step.{noted, partingNotes, remarkNotes, eventsBy, movedBy, Answered}
-use Rattle.conduct.specs.Order.{lostEvent, isClosing, LeavingUpCloses, LostOnlyLeavingUp}
+use Rattle.conduct.specs.History.{isClosing}
+use Rattle.conduct.specs.Order.{lostEvent, LeavingUpCloses, LostOnlyLeavingUp}
 use Rattle.conduct.specs.declared.Event.{Event}
 use Rattle.conduct.specs.declared.Pushed.{Pushed}
 use Rattle.conduct.specs.declared.Pushed.the-variants.{Response, Advisory}

@@ -1,4 +1,7 @@
--- The laws about sessions.
+-- The laws about sessions; a promise of specs/ names the files that show it. `Among`, `Lists`, `Loops` and `Free` are about lists and numbers, `Good`, `Moves`,
+-- `Fair`, `Kept`, `Said`, `Sweeps` and `Calls` about one call in its parts, `Places` and `Given` about a place in a history. Of a push, `Bearings` says what
+-- becomes of it by what bears on it, `Story` over its life, `Turns` in one call. `Onward`, `Acted`, `Clocks` and `Lasting` are for the laws on timers. What
+-- `WaitingAtWork` and its like say, antt computes.
 pub mod Among
 pub mod Refused
 pub mod Lists

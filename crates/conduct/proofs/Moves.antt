@@ -24,7 +24,7 @@ use Rattle.conduct.specs.Session.{Session, isConnecting, isUp, sessionOk
 use Rattle.message.specs.Messages.{kindNumber}
 use Rattle.conduct.specs.Table.{actionAt, actionOf}
 use Rattle.conduct.specs.Rules.{leaves, note, tick, connected, stop, statusBy, adviceBy, namedBy, nextNumber, acted, moveOf}
-use Rattle.conduct.specs.Rules.{answered, unmatched, okNaming, acknowledged, advises, advisoryNaming, advisedAbout}
+use Rattle.conduct.specs.Rules.{answered, matchesNothing, okNaming, acknowledged, advises, advisoryNaming, advisedAbout}
 use Rattle.conduct.specs.Step.{partingNotes, eventsBy, movedBy, Answered, answer, step}
 use Rattle.conduct.specs.declared.Awaited.the-variants as awaited
 use Rattle.conduct.specs.declared.State.{State}
@@ -115,7 +115,7 @@ stop-usual Stopped = departs Stopped partings.Nothing refl (λ h. omega arith)
 
 -- ---- messages
 
-unmatched-usual : (state : State) → Usual state (unmatched state)
+unmatched-usual : (state : State) → Usual state (matchesNothing state)
 unmatched-usual state = in-place state sweeps.Still (note codes.unmatched) refl refl refl
 
 ok-usual : (s : Session) (n : ℕ) (state : State) → Usual state (okNaming s n state)

@@ -134,7 +134,7 @@ abbrev Hushed : Session → ℕ → State → Move → Type 0
 Hushed s n state m = (isUp state ≡ true) × (sessionOkNumbers state ≡ n ∷ []) × (eventsBy s m ≡ [])
 
 module _ (s : Session) (differ : distinct (pushNumbers (s .pushes)) ≡ true) where
-  unmatched-one : (state : State) → One s (rules.unmatched state)
+  unmatched-one : (state : State) → One s (rules.matchesNothing state)
   unmatched-one state = goes-one s state codes.unmatched 0
 
   ok-one : (n : ℕ) (state : State) → One s (okNaming s n state) ⊎ Hushed s n state (okNaming s n state)

@@ -1,4 +1,4 @@
--- Promise 3: each session that is made passes the test of specs/Sound, and each call on such a one leaves such a one. So no two numbers
+-- As specs/Reached promises: each session that is made passes the test of specs/Sound, and each call on such a one leaves such a one. So no two numbers
 -- that are held are the same, and at most 32 pushes are open. Assumes nothing.
 use mathlib.Core.Path.{_≡_, refl, ap, _∙_}
 use mathlib.Core.Bool.{true, false}

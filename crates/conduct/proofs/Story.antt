@@ -1,6 +1,6 @@
 -- The life of one push: what can become of it in a call, by what bears on it, and what is said of it and left of it over many. Each law is
 -- first of one turn and then of a life; no session is looked at. Assumes nothing.
-use mathlib.Core.Path.{_≡_, refl, sym, _∙_}
+use mathlib.Core.Path.{_≡_, refl, sym, ap, _∙_}
 use mathlib.Core.Bool.{Bool, true, false, cond, and-false, or-false}
 use mathlib.Core.List.{List, [], _∷_, _++_}
 use mathlib.Core.Logic.{_⊎_, inl, inr}
@@ -12,7 +12,7 @@ use borrow.Author.Tests.{eq-eqb, ne-eqb, eqb-true, leb-true}
 use Rattle.laws.proofs.Tests.{true-false}
 use Rattle.conduct.specs.Lists.{only, those, some, all}
 use Rattle.conduct.specs.Pushes.{eventOf, older, sentAgain, isResponse, sentOnce, keptBy, toldBy}
-use Rattle.conduct.specs.History.{closing, Bearing}
+use Rattle.conduct.specs.History.{closing, isClosing, Bearing}
 use Rattle.conduct.specs.History.Bearing.{ticked, acknowledged, unreadableMessage, advised}
 use Rattle.conduct.specs.declared.Event.{Event}
 use Rattle.conduct.specs.declared.Push.{Push}
@@ -46,9 +46,6 @@ pub data Life : List Push → List Event → ℕ → List Push → Type 0 where
   gone : (t : ℕ) (rest : List Push) → Life [] [] t rest
   turned : (bs : List Bearing) (q : Push) (f : Fate) (es : List Event) (t : ℕ) (rest : List Push)
       → Turned bs q f → Life (keptBy f) es t rest → Life (q ∷ []) (toldBy f ++ es) (tickIn bs + t) rest
-
-abbrev pub isClosing : Event → Bool
-isClosing e = closing (e .code)
 
 abbrev pub isResending : Event → Bool
 isResending e = eqb (e .code) 5
@@ -92,6 +89,31 @@ again-once bs q f (stays e) = omega arith
 again-once bs q f (ages e l) = omega arith
 again-once bs q f (again e o) = rw (o, and-false (isResponse (q .what))) (omega arith)
 again-once bs q f (closes code c a b) = rw (closing-no-resending code c) (omega arith)
+
+-- ---- of a push that is closed nothing more is said
+
+none-holds-one : {A : Type 0} (a b : List A) (e : A) → [] ≡ a ++ e ∷ b → ⊥
+none-holds-one a b e h = omega (arith, ap length h, length-append a (e ∷ b))
+
+nothing-said : {ms : List Push} {es : List Event} {t : ℕ} {rest : List Push} → Life ms es t rest → ms ≡ [] → es ≡ []
+nothing-said (so-far ms) none = refl
+nothing-said (gone t rest) none = refl
+nothing-said (turned bs q f es t rest h l) none = absurd (let z : _≡_ {A = ℕ} 1 0 = ap length none in omega arith)
+
+life-ends : {ms : List Push} {es : List Event} {t : ℕ} {rest : List Push} → Life ms es t rest
+    → (a b : List Event) (e : Event) → es ≡ a ++ e ∷ b → isClosing e ≡ true → b ≡ []
+life-ends (so-far ms) a b e h c = absurd (none-holds-one a b e h)
+life-ends (gone t rest) a b e h c = absurd (none-holds-one a b e h)
+life-ends (turned bs q f es t rest u l) a b e h c = go f u (λ a h. life-ends l a b e h c) (λ none. nothing-said l none) a h
+  where
+    go : (f : Fate) → Turned bs q f → ((a : List Event) → es ≡ a ++ e ∷ b → b ≡ []) → (keptBy f ≡ [] → es ≡ [])
+        → (a : List Event) → toldBy f ++ es ≡ a ++ e ∷ b → b ≡ []
+    go f (stays x) ih silent a h = ih a h
+    go f (ages x m) ih silent a h = ih a h
+    go f (again x o) ih silent [] h = absurd (true-false c (let same : eventOf 5 q ≡ e = cc in ap isClosing (sym same)))
+    go f (again x o) ih silent (y ∷ a) h = ih a (cc)
+    go f (closes code x y z) ih silent [] h = let same : es ≡ b = cc in sym same ∙ silent refl
+    go f (closes code x y z) ih silent (w ∷ a) h = absurd (none-holds-one a b e (sym (silent refl) ∙ cc))
 
 -- ---- time
 
@@ -223,6 +245,9 @@ resent-by (closes code c a b) h = absurd (true-false h (rw (closing-no-resending
 module _ {q : Push} {es : List Event} {t : ℕ} {rest : List Push} (l : Life (q ∷ []) es t rest) where
   pub closed-once : length (those isClosing es) ≤ 1
   closed-once = life-pays isClosing once (λ bs p f h. omega (arith, close-or-left bs p f h)) l
+
+  pub closed-last : (a b : List Event) (e : Event) → es ≡ a ++ e ∷ b → isClosing e ≡ true → b ≡ []
+  closed-last = life-ends l
 
   pub resent-once : length (those isResending es) ≤ chance q
   resent-once = omega (arith, life-pays isResending chance again-once l)

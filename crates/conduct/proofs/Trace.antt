@@ -16,7 +16,7 @@ use Rattle.conduct.specs.Sound.{sound}
 use Rattle.conduct.specs.Rules.{nextNumber, moveOf}
 use Rattle.conduct.specs.Step.{answer, step}
 use Rattle.conduct.specs.History.{Entry, entry, history, sessionAfter, ticks, bearing, span, eventsIn, said, closings, resendings}
-use Rattle.conduct.specs.History.{closing, resends, acknowledges, about, gives}
+use Rattle.conduct.specs.History.{closing, isClosing, resends, acknowledges, about, gives}
 use Rattle.conduct.specs.History.Bearing.{ticked, acknowledged, unreadableMessage}
 use Rattle.conduct.specs.Followed.{firstCode, mostResendings, mostTicks, Followed, EveryPushIsFollowed}
 use Rattle.conduct.specs.declared.Event.{Event}
@@ -34,8 +34,8 @@ use Rattle.conduct.proofs.Sweeps.{mine, telling}
 use Rattle.conduct.proofs.Calls.{call-left, call-told}
 use Rattle.conduct.proofs.Places.{place, at-front, at-place}
 use Rattle.conduct.proofs.Given.{accepted-sent}
-use Rattle.conduct.proofs.Story.{Life, isClosing, isResending, chance, due, Aged}
-use Rattle.conduct.proofs.Story.{closed-once, resent-once, closed-in-time, all-handled, lasts, acknowledged-by, resent-by}
+use Rattle.conduct.proofs.Story.{Life, isResending, chance, due, Aged}
+use Rattle.conduct.proofs.Story.{closed-once, closed-last, resent-once, closed-in-time, all-handled, lasts, acknowledged-by, resent-by}
 use Rattle.conduct.proofs.Story.Life.{so-far, gone, turned}
 use Rattle.conduct.proofs.Turns.{Turn, turn, ticks-borne}
 
@@ -198,6 +198,7 @@ module _ (what : Pushed) (n h : ℕ) (s : Session) (ok : sound s ≡ true) (alon
   followed cs =
       record {
         once = rw (closings-are cs) (closed-once (its-life cs));
+        last-word = closed-last (its-life cs);
         resent = rw (resendings-are cs, ← resendings-of what n h) (resent-once (its-life cs));
         in-time = at-front cs s _ closed-by;
         as-acknowledged = at-place cs s _ acknowledged-here;

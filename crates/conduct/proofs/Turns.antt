@@ -25,7 +25,7 @@ use Rattle.conduct.specs.Table.{actionOf}
 use Rattle.conduct.specs.Rules as rules
 use Rattle.conduct.specs.Rules.{namedBy, acted, moveOf}
 use Rattle.conduct.specs.Step.{eventsBy, movedBy, answer, step}
-use Rattle.conduct.specs.History.{Entry, entry, accepted, isTick, ticks, names, isUnreadableMessage, about, gives}
+use Rattle.conduct.specs.History.{Entry, entry, accepted, isTick, ticks, names, saysUnreadable, about, gives}
 use Rattle.conduct.specs.History.{Bearing, adviceBearing, messageBearing, callBearing, bearing}
 use Rattle.conduct.specs.History.Bearing.{ticked, acknowledged, unreadableMessage, advised}
 use Rattle.conduct.specs.declared.State.{State}
@@ -54,8 +54,8 @@ abbrev Few : ℕ → List Bearing → Type 0
 Few k bs = (length bs ≤ 1) × (tickIn bs ≡ k)
 
 advice-cases : (P : Bearing → Type 0) (m : Message) → P unreadableMessage → P advised
-    → P (adviceBearing (m .«advisory_type» .there && isUnreadableMessage (m .«advisory_type» .advice)))
-advice-cases P m x y = go (m .«advisory_type» .there && isUnreadableMessage (m .«advisory_type» .advice))
+    → P (adviceBearing (saysUnreadable m))
+advice-cases P m x y = go (saysUnreadable m)
   where
     go : (b : Bool) → P (adviceBearing b)
     go true = x

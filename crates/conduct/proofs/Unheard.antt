@@ -14,9 +14,9 @@ use Rattle.conduct.specs.Session.{Session, stateNumber, isUp}
 use Rattle.conduct.specs.Sound.{soundState, sound}
 use Rattle.conduct.specs.Rules.{ages, tick, nextNumber}
 use Rattle.conduct.specs.Step.{eventsBy, Answered, step}
-use Rattle.conduct.specs.History.{Entry, entry, history, sessionAfter, ticks, Bearing, callBearing, bearing}
+use Rattle.conduct.specs.History.{Entry, entry, history, sessionAfter, ticks, Bearing, callBearing, bearing, ofPush}
 use Rattle.conduct.specs.History.Bearing.{ticked}
-use Rattle.conduct.specs.Timers.{codesOf, ofPush, unanswered, HeartbeatUnheard, HeardStaysUp}
+use Rattle.conduct.specs.Timers.{codesOf, unanswered, HeartbeatUnheard, HeardStaysUp}
 use Rattle.conduct.specs.declared.Awaited.the-variants as awaited
 use Rattle.conduct.specs.declared.State.{State}
 use Rattle.conduct.specs.declared.State.the-variants.{Waiting, Up}

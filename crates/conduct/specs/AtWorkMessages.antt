@@ -1,4 +1,4 @@
--- Promise 6, the rules at work: what is done with each kind in each linked state, and what values mean. (proofs/TableAtWork, ValuesAtWork)
+-- Promise: the rules at work: what is done with each kind in each linked state, and what values mean. (proofs/TableAtWork, ValuesAtWork)
 -- Assumes nothing.
 use mathlib.Core.Bool.{false}
 use mathlib.Core.List.{List, [], _∷_}
@@ -16,7 +16,7 @@ use Rattle.message.specs.declared.StatusValue.{StatusValue}
 use Rattle.message.specs.declared.TypeValue.{TypeValue}
 use Rattle.conduct.specs.declared.Call.{Call}
 use Rattle.conduct.specs.declared.Call.the-variants as calls
-use Rattle.conduct.specs.Scripts.{ticks, push, meaning, naming, ofStatus, ofType, bare, answer, okWith, advisoryWith}
+use Rattle.conduct.specs.Scripts.{ticking, push, meaning, naming, ofStatus, ofType, bare, answerWith, okWith, advisoryWith}
 use Rattle.conduct.specs.Scripts.{AllAsDue, inOpening, inConfirming, inUp}
 use Rattle.conduct.specs.Scripts.Line.{event}
 
@@ -66,13 +66,13 @@ abbrev pub ValuesAtWork : Type 0
 ValuesAtWork =
     AllAsDue
     ( -- a status that is not there means other
-    inOpening 21 (answer (absentStatus statuses.Ok) ∷ []) (event 3 7 0 0 ∷ []) 1 0
-    ∷ inOpening 21 (answer (absentStatus statuses.RedundantSession) ∷ []) (event 3 7 0 0 ∷ []) 1 0
+    inOpening 21 (answerWith (absentStatus statuses.Ok) ∷ []) (event 3 7 0 0 ∷ []) 1 0
+    ∷ inOpening 21 (answerWith (absentStatus statuses.RedundantSession) ∷ []) (event 3 7 0 0 ∷ []) 1 0
     ∷  -- an inResponseTo that is not there, or is no number, names nothing
     inConfirming 21 (okWith (absent 2) ∷ okWith (meaning numbers.Nothing) ∷ []) (event 4 15 0 0 ∷ event 5 15 0 0 ∷ []) 4 0
     ∷ inUp 21 (push 7 ∷ okWith (absent 3) ∷ okWith (meaning numbers.Nothing) ∷ [])
     (event 5 4 3 7 ∷ event 6 15 0 0 ∷ event 7 15 0 0 ∷ []) 5 1
-    ∷ inUp 21 (ticks 21 ∷ okWith (absent 3) ∷ okWith (meaning numbers.Nothing) ∷ ticks 20 ∷ [])
+    ∷ inUp 21 (ticking 21 ∷ okWith (absent 3) ∷ okWith (meaning numbers.Nothing) ∷ ticking 20 ∷ [])
     (event 25 3 3 0 ∷ event 26 15 0 0 ∷ event 27 15 0 0 ∷ event 47 19 4 0 ∷ event 47 7 0 0 ∷ []) 1 0
     ∷  -- an inRelationTo that is not there: 17; one that is no number: 15
     inConfirming 21
@@ -84,7 +84,7 @@ ValuesAtWork =
     ∷ advisoryWith (meaning numbers.Nothing) (ofType advices.UnreadableMessage)
     ∷ [])
     (event 5 4 3 7 ∷ event 6 17 0 0 ∷ event 7 15 0 0 ∷ []) 5 1
-    ∷ inUp 21 (ticks 21 ∷ advisoryWith (absent 3) (ofType advices.Other) ∷ ticks 20 ∷ [])
+    ∷ inUp 21 (ticking 21 ∷ advisoryWith (absent 3) (ofType advices.Other) ∷ ticking 20 ∷ [])
     (event 25 3 3 0 ∷ event 26 17 0 0 ∷ event 46 19 4 0 ∷ event 46 7 0 0 ∷ []) 1 0
     ∷  -- a type that is not there means other
     inUp 21 (push 7 ∷ advisoryWith (naming 3) (absentType advices.UnreadableMessage) ∷ []) (event 5 4 3 7 ∷ event 6 10 3 7 ∷ []) 5 0

@@ -1,4 +1,4 @@
--- Promise 6, the rules at work: making, refused calls, and the test behind 27. (proofs/MakingAtWork, RefusalsAtWork, SoundAtWork)
+-- Promise: the rules at work: making, refused calls, and the test behind 27. (proofs/MakingAtWork, RefusalsAtWork, SoundAtWork)
 -- Assumes nothing.
 use mathlib.Core.Path.{_≡_}
 use mathlib.Core.Bool.{true, false}
@@ -9,7 +9,7 @@ use Rattle.message.specs.declared.Kind.the-variants as kinds
 use Rattle.conduct.specs.Lists.{some, all}
 use Rattle.conduct.specs.Session.{Session, fresh, Made, make}
 use Rattle.conduct.specs.Sound.{sound}
-use Rattle.conduct.specs.Scripts.{ticks, connected, lost, stop, push, advise, unreadable, bare, ok, advisory}
+use Rattle.conduct.specs.Scripts.{ticking, connected, lost, stop, push, advise, unreadable, bare, ok, advisory}
 use Rattle.conduct.specs.Scripts.{AllAsDue, example, inConnecting, inOpening, inConfirming, inUp, toUp, goingOn, full, fullNumbers}
 use Rattle.conduct.specs.Scripts.Line.{event, refused}
 use Rattle.conduct.specs.declared.Awaited.the-variants as awaited
@@ -38,15 +38,15 @@ abbrev pub RefusalsAtWork : Type 0
 RefusalsAtWork =
     AllAsDue
     ( -- 6, in each state all that does not fit
-    example (fresh 21) (connected ∷ lost ∷ push 7 ∷ advise 7 ∷ bare kinds.SessionOpenResponse ∷ unreadable 9 ∷ ticks 1 ∷ [])
+    example (fresh 21) (connected ∷ lost ∷ push 7 ∷ advise 7 ∷ bare kinds.SessionOpenResponse ∷ unreadable 9 ∷ ticking 1 ∷ [])
     (refused 1 6 ∷ refused 2 6 ∷ refused 3 6 ∷ refused 4 6 ∷ refused 5 6 ∷ refused 6 6 ∷ event 7 1 0 0 ∷ []) 2 0
-    ∷ inConnecting 21 (push 7 ∷ advise 7 ∷ bare kinds.SessionOpenResponse ∷ unreadable 9 ∷ ticks 1 ∷ connected ∷ [])
+    ∷ inConnecting 21 (push 7 ∷ advise 7 ∷ bare kinds.SessionOpenResponse ∷ unreadable 9 ∷ ticking 1 ∷ connected ∷ [])
     (refused 2 6 ∷ refused 3 6 ∷ refused 4 6 ∷ refused 5 6 ∷ event 7 2 1 0 ∷ []) 3 0
-    ∷ inOpening 21 (ticks 19 ∷ connected ∷ push 7 ∷ advise 7 ∷ ticks 1 ∷ [])
+    ∷ inOpening 21 (ticking 19 ∷ connected ∷ push 7 ∷ advise 7 ∷ ticking 1 ∷ [])
     (refused 22 6 ∷ refused 23 6 ∷ refused 24 6 ∷ event 25 18 2 0 ∷ event 25 19 3 0 ∷ event 25 7 0 0 ∷ []) 1 0
-    ∷ inConfirming 21 (ticks 19 ∷ connected ∷ push 7 ∷ advise 7 ∷ ticks 1 ∷ [])
+    ∷ inConfirming 21 (ticking 19 ∷ connected ∷ push 7 ∷ advise 7 ∷ ticking 1 ∷ [])
     (refused 23 6 ∷ refused 24 6 ∷ refused 25 6 ∷ event 26 19 3 0 ∷ event 26 7 0 0 ∷ []) 1 0
-    ∷ inUp 21 (ticks 20 ∷ connected ∷ ticks 1 ∷ []) (refused 25 6 ∷ event 26 3 3 0 ∷ []) 5 0
+    ∷ inUp 21 (ticking 20 ∷ connected ∷ ticking 1 ∷ []) (refused 25 6 ∷ event 26 3 3 0 ∷ []) 5 0
     ∷  -- refusals handed in: 8 to 14 and no other
     inOpening 21 (unreadable 7 ∷ unreadable 8 ∷ unreadable 14 ∷ unreadable 15 ∷ [])
     (refused 3 6 ∷ event 4 16 0 8 ∷ event 5 16 0 14 ∷ refused 6 6 ∷ []) 3 0
@@ -78,7 +78,7 @@ RefusalsAtWork =
     ∷ refused 15 6
     ∷ []) 5 0
     ∷  -- 5, whatever the call
-    example (fresh 21) (stop ∷ ticks 1 ∷ connected ∷ lost ∷ stop ∷ push 7 ∷ advise 7 ∷ bare kinds.Ok ∷ unreadable 9 ∷ unreadable 15 ∷ [])
+    example (fresh 21) (stop ∷ ticking 1 ∷ connected ∷ lost ∷ stop ∷ push 7 ∷ advise 7 ∷ bare kinds.Ok ∷ unreadable 9 ∷ unreadable 15 ∷ [])
     (refused 2 5
     ∷ refused 3 5
     ∷ refused 4 5
@@ -96,7 +96,7 @@ RefusalsAtWork =
     ∷ advise 7
     ∷ bare kinds.Request
     ∷ unreadable 9
-    ∷ ticks 1
+    ∷ ticking 1
     ∷ ok 5
     ∷ push 8
     ∷ advise 7
@@ -120,8 +120,8 @@ RefusalsAtWork =
 
 -- ---- the test behind 27
 
-abbrev pub standing : ℕ → State → List Push → Session
-standing interval state pushes = record { interval = interval; state = state; pushes = pushes; last = 4294967295 }
+abbrev pub sessionWith : ℕ → State → List Push → Session
+sessionWith interval state pushes = record { interval = interval; state = state; pushes = pushes; last = 4294967295 }
 
 abbrev pub aPush : Pushed → ℕ → ℕ → ℕ → Push
 aPush what number sent age = record { what = what; number = number; handle = 4294967295; sent = sent; age = age }
@@ -130,16 +130,16 @@ abbrev pub responses : List ℕ → List Push
 responses numbers = map (λ (n : ℕ). aPush Response n 1 0) numbers
 
 abbrev pub inStates : List State → List Push → List Session
-inStates states pushes = map (λ (state : State). standing 21 state pushes) states
+inStates states pushes = map (λ (state : State). sessionWith 21 state pushes) states
 
 -- in Up, beside an open SessionOk of the number 2
 abbrev pub upWith : List (List Push) → List Session
-upWith rows = map (λ (pushes : List Push). standing 21 (Up (awaited.Ok 2) 0) pushes) rows
+upWith rows = map (λ (pushes : List Push). sessionWith 21 (Up (awaited.Ok 2) 0) pushes) rows
 
 abbrev pub passing : List Session
 passing =
-    standing 6000 (Up awaited.Nothing 5999) []
-    ∷ standing 21 (Up awaited.Nothing 0) (responses (2 ∷ []))
+    sessionWith 6000 (Up awaited.Nothing 5999) []
+    ∷ sessionWith 21 (Up awaited.Nothing 0) (responses (2 ∷ []))
     ∷ inStates (Waiting 1 ∷ Waiting 300 ∷ Connecting ∷ Opening 0 ∷ Opening 19 ∷ Confirming 2 0 ∷ Confirming 2 19 ∷ Stopped ∷ []) []
     ++ inStates (Up (awaited.Ok 2) 0 ∷ Up (awaited.Ok 2) 19 ∷ Up awaited.Nothing 0 ∷ Up awaited.Nothing 20 ∷ []) []
     ++ upWith
@@ -151,7 +151,7 @@ passing =
 -- in each state, with an interval that is not allowed
 abbrev pub inAll : ℕ → List Session
 inAll interval =
-    map (λ (state : State). standing interval state [])
+    map (λ (state : State). sessionWith interval state [])
     (Waiting 1 ∷ Connecting ∷ Opening 0 ∷ Confirming 2 0 ∷ Up (awaited.Ok 2) 0 ∷ Up awaited.Nothing 0 ∷ Stopped ∷ [])
 
 abbrev pub failing : List Session

@@ -1,4 +1,4 @@
--- Promise 4, refusals, room and events of one call. (proofs/Refused, Counted, Few, Heartbeats, OneEvent, Carried)
+-- Promise: refusals, room and events of one call. (proofs/Refused, Counted, Few, Heartbeats, OneEvent, Carried)
 -- Assumes nothing.
 use mathlib.Core.Path.{_≡_}
 use mathlib.Core.Bool.{Bool, true, false, cond, not, _&&_, _||_}
@@ -97,12 +97,12 @@ OneEvent =
     → (length (step s c .events) ≡ 1) ⊎ Silent s c
 
 -- what an event of each code carries: a number only 2 to 6, 9 to 12, 18 and 19, and a detail only 4 to 6, 9 to 12 and 16
-abbrev pub plain : Event → Bool
-plain e =
+abbrev pub numberFits : Event → Bool
+numberFits e =
     (leb 2 (e .code) && leb (e .code) 6) || ((leb 9 (e .code) && leb (e .code) 12) || (eqb (e .code) 18 || (eqb (e .code) 19 || eqb (e .number) 0)))
 
-abbrev pub bare : Event → Bool
-bare e = (leb 4 (e .code) && leb (e .code) 6) || ((leb 9 (e .code) && leb (e .code) 12) || (eqb (e .code) 16 || eqb (e .detail) 0))
+abbrev pub detailFits : Event → Bool
+detailFits e = (leb 4 (e .code) && leb (e .code) 6) || ((leb 9 (e .code) && leb (e .code) 12) || (eqb (e .code) 16 || eqb (e .detail) 0))
 
 abbrev pub OnlyTheseCarry : Type 0
-OnlyTheseCarry = (s : Session) (c : Call) → (all plain (step s c .events) ≡ true) × (all bare (step s c .events) ≡ true)
+OnlyTheseCarry = (s : Session) (c : Call) → (all numberFits (step s c .events) ≡ true) × (all detailFits (step s c .events) ≡ true)

@@ -1,4 +1,4 @@
--- Promise 2, what decides a push: as long as the session stands, only accepted ticks and messages with its number decide when and how it closes. (proofs/Decided)
+-- Promise: what decides a push: as long as the session stands, only accepted ticks and messages with its number decide when and how it closes. (proofs/Decided)
 -- Assumes nothing.
 use mathlib.Core.Path.{_≡_}
 use mathlib.Core.Bool.{true}

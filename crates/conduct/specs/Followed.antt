@@ -1,4 +1,4 @@
--- Promise 1, demand 3 over every history: what holds of an accepted push from its acceptance on. (proofs/Trace)
+-- Promise: demand 3 over every history: what holds of an accepted push from its acceptance on. (proofs/Trace)
 -- Assumes nothing.
 use mathlib.Core.Path.{_≡_}
 use mathlib.Core.Bool.{true, false}
@@ -10,7 +10,7 @@ use lib.ListN.{length}
 use Rattle.conduct.specs.Lists.{some, all}
 use Rattle.conduct.specs.Session.{Session}
 use Rattle.conduct.specs.Sound.{sound}
-use Rattle.conduct.specs.History.{Entry, history, ticks, bearing, acknowledges, resends, gives, said, closings, resendings}
+use Rattle.conduct.specs.History.{Entry, history, ticks, bearing, isClosing, acknowledges, resends, gives, said, closings, resendings}
 use Rattle.conduct.specs.History.Bearing.{ticked, acknowledged, unreadableMessage}
 use Rattle.conduct.specs.declared.Event.{Event}
 use Rattle.conduct.specs.declared.Pushed.{Pushed}
@@ -35,6 +35,8 @@ mostTicks Advisory = 20
 pub record Followed (what : Pushed) (n h : ℕ) (rest : List Entry) : Type 0 where
   -- it is closed at most once
   pub once : length (closings n rest) ≤ 1
+  -- and what closes it is the last that is said of it
+  pub last-word : (a b : List Event) (e : Event) → said n rest ≡ a ++ e ∷ b → isClosing e ≡ true → b ≡ []
   -- sent by the event of its acceptance, and as often again at most
   pub resent : length (resendings n rest) ≤ mostResendings what
   -- closed by the end of so many accepted ticks
@@ -51,7 +53,7 @@ pub record Followed (what : Pushed) (n h : ℕ) (rest : List Entry) : Type 0 whe
   -- all that is said of it has its handle
   pub handled : all (λ (e : Event). eqb (e .detail) h) (said n rest) ≡ true
 
--- Of any calls on any session that can come about: an accepted push is sent by one event, whose number then names it, and is followed to its end.
+-- Of any calls on any session that passes the test behind 27: an accepted push is sent by one event, whose number then names it, and is followed to its end.
 abbrev pub EveryPushIsFollowed : Type 0
 EveryPushIsFollowed =
     (s : Session) (cs : List Call) (before rest : List Entry) (x : Entry) (what : Pushed) (h : ℕ)

@@ -80,13 +80,16 @@ abbrev pub adviceBearing : Bool → Bearing
 adviceBearing true = unreadableMessage
 adviceBearing false = advised
 
+-- its advisoryType is there and is UnreadableMessage
+abbrev pub saysUnreadable : Message → Bool
+saysUnreadable m = m .«advisory_type» .there && isUnreadableMessage (m .«advisory_type» .advice)
+
 abbrev pub messageBearing : ℕ → Message → Kind → List Bearing
 messageBearing n m kinds.SessionOpenRequest = []
 messageBearing n m kinds.SessionOpenResponse = []
 messageBearing n m kinds.SessionOk = []
 messageBearing n m kinds.Ok = cond (names n (m .«in_response_to»)) (acknowledged ∷ []) []
-messageBearing n m kinds.Advisory =
-    cond (names n (m .«in_relation_to»)) (adviceBearing (m .«advisory_type» .there && isUnreadableMessage (m .«advisory_type» .advice)) ∷ []) []
+messageBearing n m kinds.Advisory = cond (names n (m .«in_relation_to»)) (adviceBearing (saysUnreadable m) ∷ []) []
 messageBearing n m kinds.Request = []
 messageBearing n m kinds.Response = []
 
@@ -112,8 +115,11 @@ firstSending e = eqb (e .code) 4 || eqb (e .code) 6
 abbrev pub closing : ℕ → Bool
 closing code = leb 9 code && leb code 12
 
+abbrev pub isClosing : Event → Bool
+isClosing e = closing (e .code)
+
 abbrev pub closes : ℕ → Event → Bool
-closes n e = closing (e .code) && eqb (e .number) n
+closes n e = isClosing e && eqb (e .number) n
 
 abbrev pub resends : ℕ → Event → Bool
 resends n e = eqb (e .code) 5 && eqb (e .number) n
@@ -121,9 +127,12 @@ resends n e = eqb (e .code) 5 && eqb (e .number) n
 abbrev pub acknowledges : ℕ → Event → Bool
 acknowledges n e = eqb (e .code) 9 && eqb (e .number) n
 
--- all that is said of a push after its first sending
+-- said of a push after its first sending: sent again, or closed; and of the push n
+abbrev pub ofPush : Event → Bool
+ofPush e = isClosing e || eqb (e .code) 5
+
 abbrev pub about : ℕ → Event → Bool
-about n e = (closing (e .code) || eqb (e .code) 5) && eqb (e .number) n
+about n e = ofPush e && eqb (e .number) n
 
 -- 2, 3, 4, 6, 18 and 19 take a number
 abbrev pub takes : ℕ → Bool

@@ -1,6 +1,6 @@
 -- Document 01, "The session", in its order: `Codes` names the events, `Numbers` gives a send event its number, `Pushes` says what becomes of an open push, `Session`
--- what a session is and which calls it refuses, `Table` and `Rules` what each call does, `Step` what it answers, `Sound` which sessions can come about. `Lists`
--- has the words for lists. `History` is what a host sees over any calls; the promises about it are told by their first lines.
+-- what a session is and which calls it refuses, `Table` and `Rules` what each call does, `Step` what it answers, `Sound` what every session has that was
+-- made or reached from one. `Lists` has the words for lists. `History` is what a host sees over any calls; the promises about it are told by their first lines.
 pub mod Lists
 pub mod Codes
 pub mod Numbers

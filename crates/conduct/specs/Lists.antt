@@ -9,7 +9,7 @@ abbrev pub flat : {A B : Type 0} → (A → List B) → List A → List B
 flat f [] = []
 flat f (x ∷ xs) = f x ++ flat f xs
 
--- the elements that pass a test, whether one does, and whether all do
+-- an element if it passes a test; of a list those that do, whether one does, and whether all do
 abbrev pub only : {A : Type 0} → (A → Bool) → A → List A
 only test x = cond (test x) (x ∷ []) []
 

@@ -1,7 +1,7 @@
--- Promise 5, the order of events and numbers. (proofs/Acceptance, Leaving, Heartbeats, Taken)
+-- Promise: the order of events and numbers. (proofs/Acceptance, Leaving, Heartbeats, Taken)
 -- Assumes nothing.
 use mathlib.Core.Path.{_≡_}
-use mathlib.Core.Bool.{Bool, true, false, _||_}
+use mathlib.Core.Bool.{true, false}
 use mathlib.Core.List.{List, [], _∷_, _++_, map}
 use Prim.Native.Nat.{ℕ, _+_, _<_, _%_, _^_}
 use lib.Dec.{eqb}
@@ -9,7 +9,7 @@ use Rattle.conduct.specs.Lists.{those, some, among}
 use Rattle.conduct.specs.Session.{Session, isUp, held}
 use Rattle.conduct.specs.Sound.{sound}
 use Rattle.conduct.specs.Step.{step}
-use Rattle.conduct.specs.History.{history, sessionAfter, firstSending, eventsIn, takes}
+use Rattle.conduct.specs.History.{history, sessionAfter, firstSending, isClosing, eventsIn, takes}
 use Rattle.conduct.specs.Followed.{firstCode}
 use Rattle.conduct.specs.declared.Event.{Event}
 use Rattle.conduct.specs.declared.Push.{Push}
@@ -37,9 +37,6 @@ InOrderOfAcceptance =
 
 abbrev pub lostEvent : Push → Event
 lostEvent p = record { code = 12; number = p .number; detail = p .handle }
-
-abbrev pub isClosing : Event → Bool
-isClosing e = eqb (e .code) 9 || (eqb (e .code) 10 || (eqb (e .code) 11 || eqb (e .code) 12))
 
 abbrev pub LeavingUpCloses : Type 0
 LeavingUpCloses =

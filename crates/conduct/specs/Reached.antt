@@ -1,4 +1,4 @@
--- Promise 3, sessions that come about: each made one passes the test behind 27, and so does each that is reached from one that passes. (proofs/Reached)
+-- Promise: sessions that come about: each made one passes the test behind 27, and so does each that is reached from one that passes. (proofs/Reached)
 -- Assumes nothing.
 use mathlib.Core.Path.{_≡_}
 use mathlib.Core.Bool.{true}

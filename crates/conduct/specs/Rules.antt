@@ -106,21 +106,21 @@ answered next statuses.Other = waits partings.Disconnect
 -- ---- Oks and Advisories, by the number that they name and what is open
 
 -- naming nothing open
-abbrev pub unmatched : State → Move
-unmatched state = goes state (note codes.unmatched)
+abbrev pub matchesNothing : State → Move
+matchesNothing state = goes state (note codes.unmatched)
 
 abbrev pub okNaming : Session → ℕ → State → Move
-okNaming s n (Waiting left) = unmatched (Waiting left)
-okNaming s n Connecting = unmatched Connecting
-okNaming s n (Opening age) = unmatched (Opening age)
-okNaming s n (Confirming number age) = cond (eqb n number) (goes (Up awaited.Nothing age) (note codes.up)) (unmatched (Confirming number age))
+okNaming s n (Waiting left) = matchesNothing (Waiting left)
+okNaming s n Connecting = matchesNothing Connecting
+okNaming s n (Opening age) = matchesNothing (Opening age)
+okNaming s n (Confirming number age) = cond (eqb n number) (goes (Up awaited.Nothing age) (note codes.up)) (matchesNothing (Confirming number age))
 okNaming s n (Up waiting age) =
     cond (among n (awaitedNumbers waiting)) (goes (Up awaited.Nothing age) remarks.Nothing)
-    (cond (among n (pushNumbers (s .pushes))) (touches (Up waiting age) (sweeps.Acknowledged n)) (unmatched (Up waiting age)))
-okNaming s n Stopped = unmatched Stopped
+    (cond (among n (pushNumbers (s .pushes))) (touches (Up waiting age) (sweeps.Acknowledged n)) (matchesNothing (Up waiting age)))
+okNaming s n Stopped = matchesNothing Stopped
 
 abbrev pub acknowledged : Session → Number → Move
-acknowledged s numbers.Nothing = unmatched (s .state)
+acknowledged s numbers.Nothing = matchesNothing (s .state)
 acknowledged s (numbers.Names n) = okNaming s n (s .state)
 
 -- what an Advisory does to the push that it names
@@ -129,17 +129,17 @@ advises advices.UnreadableMessage n = sweeps.UnreadableMessage n
 advises advices.Other n = sweeps.Advised n
 
 abbrev pub advisoryNaming : Session → Advice → ℕ → State → Move
-advisoryNaming s advice n (Waiting left) = unmatched (Waiting left)
-advisoryNaming s advice n Connecting = unmatched Connecting
-advisoryNaming s advice n (Opening age) = unmatched (Opening age)
-advisoryNaming s advice n (Confirming number age) = cond (eqb n number) (waits partings.Disconnect) (unmatched (Confirming number age))
+advisoryNaming s advice n (Waiting left) = matchesNothing (Waiting left)
+advisoryNaming s advice n Connecting = matchesNothing Connecting
+advisoryNaming s advice n (Opening age) = matchesNothing (Opening age)
+advisoryNaming s advice n (Confirming number age) = cond (eqb n number) (waits partings.Disconnect) (matchesNothing (Confirming number age))
 advisoryNaming s advice n (Up waiting age) =
     cond (among n (awaitedNumbers waiting)) (goes (Up awaited.Nothing age) (note codes.advisoryArrived))
-    (cond (among n (pushNumbers (s .pushes))) (touches (Up waiting age) (advises advice n)) (unmatched (Up waiting age)))
-advisoryNaming s advice n Stopped = unmatched Stopped
+    (cond (among n (pushNumbers (s .pushes))) (touches (Up waiting age) (advises advice n)) (matchesNothing (Up waiting age)))
+advisoryNaming s advice n Stopped = matchesNothing Stopped
 
 abbrev pub advisedAbout : Session → Advice → Number → Move
-advisedAbout s advice numbers.Nothing = unmatched (s .state)
+advisedAbout s advice numbers.Nothing = matchesNothing (s .state)
 advisedAbout s advice (numbers.Names n) = advisoryNaming s advice n (s .state)
 
 -- without inRelationTo it closes nothing

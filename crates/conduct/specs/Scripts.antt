@@ -26,7 +26,7 @@ use Rattle.conduct.specs.declared.Call.{Call}
 use Rattle.conduct.specs.declared.Call.the-variants as calls
 use Rattle.conduct.specs.declared.Pushed.the-variants.{Response, Advisory}
 
--- ---- a script, line by line: a line is one call or, `ticks`, so many
+-- ---- a script, line by line: a line is one call or, `ticking`, so many ticks
 
 abbrev pub Script : Type 0
 Script = List (List Call)
@@ -34,8 +34,8 @@ Script = List (List Call)
 abbrev pub callsOf : Script → List Call
 callsOf script = flat (λ (line : List Call). line) script
 
-abbrev pub ticks : ℕ → List Call
-ticks k = replicate k calls.Tick
+abbrev pub ticking : ℕ → List Call
+ticking k = replicate k calls.Tick
 
 abbrev pub connected : List Call
 connected = calls.Connected ∷ []
@@ -76,17 +76,17 @@ abbrev pub bare : Kind → List Call
 bare kind = calls.Heard (message kind noStatus noNumber noNumber noNumber noType) ∷ []
 
 -- a SessionOpenResponse, and one of each status
-abbrev pub answer : StatusValue → List Call
-answer status = calls.Heard (message kinds.SessionOpenResponse status noNumber noNumber noNumber noType) ∷ []
+abbrev pub answerWith : StatusValue → List Call
+answerWith status = calls.Heard (message kinds.SessionOpenResponse status noNumber noNumber noNumber noType) ∷ []
 
 abbrev pub answerOk : List Call
-answerOk = answer (ofStatus statuses.Ok)
+answerOk = answerWith (ofStatus statuses.Ok)
 
 abbrev pub answerRedundantSession : List Call
-answerRedundantSession = answer (ofStatus statuses.RedundantSession)
+answerRedundantSession = answerWith (ofStatus statuses.RedundantSession)
 
 abbrev pub answerOther : List Call
-answerOther = answer (ofStatus statuses.Other)
+answerOther = answerWith (ofStatus statuses.Other)
 
 -- an Ok, and one that names n
 abbrev pub okWith : NumberValue → List Call
@@ -155,7 +155,7 @@ example start script lines state pushes =
 -- ---- examples that lead a fresh session to a state first: call 1 to Connecting, 2 to Opening, 3 to Confirming, 4 to Up
 
 abbrev pub inConnecting : ℕ → Script → List Line → ℕ → ℕ → Example
-inConnecting interval script lines = example (fresh interval) (ticks 1 ∷ script) (event 1 1 0 0 ∷ lines)
+inConnecting interval script lines = example (fresh interval) (ticking 1 ∷ script) (event 1 1 0 0 ∷ lines)
 
 abbrev pub inOpening : ℕ → Script → List Line → ℕ → ℕ → Example
 inOpening interval script lines = inConnecting interval (connected ∷ script) (event 2 2 1 0 ∷ lines)
@@ -169,7 +169,7 @@ inUp interval script lines = inConfirming interval (ok 2 ∷ script) (event 4 8 
 -- ---- examples that go on from what a script left, with another number as the last one taken, as if the numbers had come round
 
 abbrev pub toOpening : Script
-toOpening = ticks 1 ∷ connected ∷ []
+toOpening = ticking 1 ∷ connected ∷ []
 
 abbrev pub toConfirming : Script
 toConfirming = toOpening ++ answerOk ∷ []

@@ -1,4 +1,4 @@
--- The sessions that can come about: the test behind refusal 27. docs/CONSISTENCY.md lists it. Assumes nothing.
+-- The test behind refusal 27: what every session has that was made or reached from one; others may have it too. docs/CONSISTENCY.md lists it. Assumes nothing.
 use mathlib.Core.Bool.{Bool, true, _&&_, _||_}
 use Prim.Native.Nat.{ℕ}
 use lib.Dec.{leb, ltb, eqb}
@@ -22,11 +22,11 @@ soundState interval (Up (awaited.Ok number) age) = ltb age 20
 soundState interval (Up awaited.Nothing age) = ltb age interval
 soundState interval Stopped = true
 
--- sent once or, a Response, twice, and less than 20 ticks ago
 abbrev pub mostSendings : Pushed → ℕ
 mostSendings Response = 2
 mostSendings Advisory = 1
 
+-- sent once or, a Response, twice, and less than 20 ticks ago
 abbrev pub soundPush : Push → Bool
 soundPush p = leb 1 (p .sent) && (leb (p .sent) (mostSendings (p .what)) && ltb (p .age) 20)
 

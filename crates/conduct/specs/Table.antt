@@ -20,6 +20,7 @@ actions =
 abbrev pub actionAt : ℕ → ℕ → Action
 actionAt row column = getD (getD actions row []) column OutOfPlace
 
--- Opening is the third state, SessionOpenRequest the first kind
+-- Opening is the third state, SessionOpenRequest the first kind. It is asked in linked states alone: Waiting and Connecting would have Opening's row,
+-- as a difference below 0 is 0.
 abbrev pub actionOf : State → Kind → Action
 actionOf state kind = actionAt (stateNumber state - 3) (kindNumber kind - 1)

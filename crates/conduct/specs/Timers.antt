@@ -1,4 +1,4 @@
--- Promise 9, the session's timers over any calls: how long it waits, opens and confirms, and when it sends a SessionOk. (proofs/WaitingTime, OpeningTime, ConfirmingTime,
+-- Promise: the session's timers over any calls: how long it waits, opens and confirms, and when it sends a SessionOk. (proofs/WaitingTime, OpeningTime, ConfirmingTime,
 -- Unheard, Answers, Sent, Intervals, Entered)
 -- Assumes nothing.
 use mathlib.Core.Path.{_≡_}
@@ -11,7 +11,7 @@ use Rattle.conduct.specs.Lists.{some, all}
 use Rattle.conduct.specs.Session.{Session, stateNumber, isUp}
 use Rattle.conduct.specs.Sound.{sound}
 use Rattle.conduct.specs.Step.{step, Answered}
-use Rattle.conduct.specs.History.{Entry, entry, history, sessionAfter, ticks, bearing, adviceBearing, closing}
+use Rattle.conduct.specs.History.{Entry, entry, history, sessionAfter, ticks, bearing, adviceBearing, ofPush}
 use Rattle.conduct.specs.History.Bearing.{ticked, acknowledged}
 use Rattle.conduct.specs.declared.Awaited.{Awaited}
 use Rattle.conduct.specs.declared.Awaited.the-variants as awaited
@@ -34,10 +34,6 @@ tickAfter s cs = step (sessionAfter s cs) calls.Tick
 -- all calls left the session in the state with this number
 abbrev pub stays : ℕ → Session → List Call → Type 0
 stays number s cs = all (λ (x : Entry). eqb (stateNumber (x .state)) number) (history s cs) ≡ true
-
--- said of an open push: sent again, or closed
-abbrev pub ofPush : Event → Bool
-ofPush e = closing (e .code) || eqb (e .code) 5
 
 abbrev pub saysSessionOk : List Event → Bool
 saysSessionOk es = some (λ (e : Event). eqb (e .code) 3) es
@@ -111,9 +107,8 @@ HeardStaysUp =
 
 -- ---- a SessionOk every interval
 
--- Confirming or Up
-abbrev pub standing : State → Bool
-standing state = eqb (stateNumber state) 4 || eqb (stateNumber state) 5
+abbrev pub isConfirmingOrUp : State → Bool
+isConfirmingOrUp state = eqb (stateNumber state) 4 || eqb (stateNumber state) 5
 
 -- event 3 leaves its SessionOk open, with no tick counted
 abbrev pub SentIsOpen : Type 0
@@ -121,8 +116,8 @@ SentIsOpen =
     (s : Session) (c : Call) (a b : List Event) (e : Event) → step s c .events ≡ a ++ e ∷ b → e .code ≡ 3
     → (step s c .next .state ≡ Confirming (e .number) 0) ⊎ (step s c .next .state ≡ Up (awaited.Ok (e .number)) 0)
 
--- The SessionOk n was just sent; since then the session stands and sent no other. Then fewer ticks than the interval were accepted, and a tick says 3 exactly
--- if it is the last of it.
+-- The SessionOk n was just sent; since then the session is confirming or up and sent no other. Then fewer ticks than the interval were accepted, and a
+-- tick says 3 exactly if it is the last of it.
 pub record Due (s : Session) (cs : List Call) : Type 0 where
   pub shorter : ticks (history s cs) < s .interval
   pub quiet : suc (ticks (history s cs)) < s .interval → saysSessionOk (tickAfter s cs .events) ≡ false
@@ -131,7 +126,7 @@ pub record Due (s : Session) (cs : List Call) : Type 0 where
 abbrev pub EveryInterval : Type 0
 EveryInterval =
     (s : Session) (cs : List Call) (n : ℕ) → sound s ≡ true → (s .state ≡ Confirming n 0) ⊎ (s .state ≡ Up (awaited.Ok n) 0)
-    → all (λ (x : Entry). standing (x .state) && not (saysSessionOk (x .events))) (history s cs) ≡ true
+    → all (λ (x : Entry). isConfirmingOrUp (x .state) && not (saysSessionOk (x .events))) (history s cs) ≡ true
     → Due s cs
 
 -- the interval is that of the making

@@ -1,4 +1,4 @@
--- Promise 10, the twelve examples of document 01 ("The strength asked of the statements"): one table, one statement. (proofs/Twelve)
+-- Promise: the twelve examples of document 01 ("The strength asked of the statements"): one table, one statement. (proofs/Twelve)
 -- Assumes nothing.
 use mathlib.Core.Path.{_≡_}
 use mathlib.Core.Bool.{true}
@@ -19,8 +19,8 @@ use Rattle.message.specs.declared.Number.the-variants.{Nothing, Names}
 use Rattle.message.specs.declared.Message.{Message}
 use Rattle.conduct.specs.Lists.{flat, those}
 use Rattle.conduct.specs.Session.{Session, fresh}
-use Rattle.conduct.specs.History.{Entry, history, sessionAfter, ticks as ticksIn, about}
-use Rattle.conduct.specs.Scripts.{Script, callsOf, toUp, push, advise, ticks, unreadableMessage}
+use Rattle.conduct.specs.History.{Entry, history, sessionAfter, ticks, about}
+use Rattle.conduct.specs.Scripts.{Script, callsOf, toUp, push, advise, ticking, unreadableMessage}
 use Rattle.conduct.specs.declared.Event.{Event}
 
 -- ---- streams
@@ -70,7 +70,7 @@ linesOf (tooLong ∷ items) = record { bytes = 0; kind = 0; refusal = 8; place =
 abbrev pub toldOf : ℕ → ℕ → List Entry → List (ℕ × ℕ)
 toldOf n passed [] = []
 toldOf n passed (x ∷ xs) =
-    map (λ (e : Event). (passed + ticksIn (x ∷ []), e .code)) (those (about n) (x .events)) ++ toldOf n (passed + ticksIn (x ∷ [])) xs
+    map (λ (e : Event). (passed + ticks (x ∷ []), e .code)) (those (about n) (x .events)) ++ toldOf n (passed + ticks (x ∷ [])) xs
 
 -- a fresh session brought up; what is pushed then gets number 3
 abbrev pub up : Session
@@ -118,11 +118,11 @@ twelve =
     reading (nested 32) (whole (okWith 18 1 (Names 7)))
     ∷ reading (nested 33) (refused 10 114)
     ∷  -- an Advisory is closed in tick 20
-    pushing (advise 17 ∷ ticks 60 ∷ []) ((20, 11) ∷ [])
+    pushing (advise 17 ∷ ticking 60 ∷ []) ((20, 11) ∷ [])
     ∷  -- a Response that could not be read after tick 5: sent again, and closed in tick 25
-    pushing (push 17 ∷ ticks 5 ∷ unreadableMessage 3 ∷ ticks 60 ∷ []) ((5, 5) ∷ (25, 11) ∷ [])
+    pushing (push 17 ∷ ticking 5 ∷ unreadableMessage 3 ∷ ticking 60 ∷ []) ((5, 5) ∷ (25, 11) ∷ [])
     ∷  -- one that nobody answers: sent again in tick 20, and closed in tick 40
-    pushing (push 17 ∷ ticks 60 ∷ []) ((20, 5) ∷ (40, 11) ∷ [])
+    pushing (push 17 ∷ ticking 60 ∷ []) ((20, 5) ∷ (40, 11) ∷ [])
     ∷ []
 
 abbrev pub AllHold : List Example → Type 0

@@ -1,4 +1,4 @@
--- Promise 8, the program replay: the turns over the pieces of a script, in order, and what follows the last of them print what `Replay`
+-- Promise: the program replay: the turns over the pieces of a script, in order, and what follows the last of them print what `Replay`
 -- says of the script. (proofs/Whole) Assumes nothing.
 use mathlib.Core.Path.{_≡_}
 use mathlib.Core.List.{List}

@@ -49,8 +49,8 @@ module _ {r r′ : Move} where
   pub answered-once : (next : ℕ) (status : Status) → r ≡ Rules.answered next status → r′ ≡ Rules.answered next status → r ≡ r′
   answered-once next status = one-answer
 
-  pub unmatched-once : (state : State) → r ≡ Rules.unmatched state → r′ ≡ Rules.unmatched state → r ≡ r′
-  unmatched-once state = one-answer
+  pub matches-nothing-once : (state : State) → r ≡ Rules.matchesNothing state → r′ ≡ Rules.matchesNothing state → r ≡ r′
+  matches-nothing-once state = one-answer
 
 -- ---- what a message says
 
@@ -91,8 +91,8 @@ module _ {r r′ : Bool} where
   pub is-state-sound-once : (interval : ℕ) (state : State) → r ≡ soundState interval state → r′ ≡ soundState interval state → r ≡ r′
   is-state-sound-once interval state = one-answer
 
-  pub is-quiet-once : (state : State) (count : ℕ) → r ≡ (isUp state || eqb count 0) → r′ ≡ (isUp state || eqb count 0) → r ≡ r′
-  is-quiet-once state count = one-answer
+  pub is-count-sound-once : (state : State) (count : ℕ) → r ≡ (isUp state || eqb count 0) → r′ ≡ (isUp state || eqb count 0) → r ≡ r′
+  is-count-sound-once state count = one-answer
 
 -- ---- one open push
 

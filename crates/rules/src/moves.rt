@@ -92,7 +92,8 @@ fn tick_confirming(number: u32, age: u32) -> Move
     waits(Parting::GoingOut)
 }
 
-// In Up while no SessionOk is open: the heartbeat is due at the last tick of the interval.
+// In Up while no SessionOk is open: the heartbeat is due at the last tick of the interval. `age < interval` is tested first, so that an age past
+// the interval, which no consistent record has, does not overflow.
 fn tick_quiet(interval: u32, next: u32, age: u32) -> Move
     ensures { λ r. ⌜ r ≡ Rules.tick interval next (states.Up awaiting.Nothing age) ⌝ }
 {
@@ -154,21 +155,17 @@ pub fn stop(state: State) -> Move
 pub fn answered(next: u32, status: Status) -> Move
     ensures { λ r. ⌜ r ≡ Rules.answered next status ⌝ }
 {
+    let confirming = State::Confirming(next, 0);
+    let sent = Remark::Note(codes::SEND_SESSION_OK, 0);
     match status {
-        Status::Ok => goes(
-            State::Confirming(next, 0),
-            Remark::Note(codes::SEND_SESSION_OK, 0),
-        ),
-        Status::RedundantSession => goes(
-            State::Confirming(next, 0),
-            Remark::Note(codes::SEND_SESSION_OK, 0),
-        ),
+        Status::Ok => goes(confirming, sent),
+        Status::RedundantSession => goes(confirming, sent),
         Status::Other => waits(Parting::Disconnect),
     }
 }
 
-pub fn unmatched(state: State) -> Move
-    ensures { λ r. ⌜ r ≡ Rules.unmatched state ⌝ }
+pub fn matches_nothing(state: State) -> Move
+    ensures { λ r. ⌜ r ≡ Rules.matchesNothing state ⌝ }
 {
     goes(state, Remark::Note(codes::UNMATCHED, 0))
 }

@@ -50,7 +50,7 @@ pub fn is_state_sound(interval: u32, state: State) -> bool
 }
 
 // Whether so many pushes may be open in a state: none but in Up.
-pub fn is_quiet(state: State, count: usize) -> bool
+pub fn is_count_sound(state: State, count: usize) -> bool
     ensures { λ r. ⌜ r ≡ (isUp state || eqb count 0) ⌝ }
 {
     if is_up(state) {

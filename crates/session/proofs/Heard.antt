@@ -17,10 +17,10 @@ use Rattle.message.specs.declared.Number.{Number}
 use Rattle.message.specs.declared.Number.the-variants as numbers
 use Rattle.message.specs.declared.NumberValue.{NumberValue}
 use Rattle.message.specs.declared.Message.{Message}
-use Rattle.conduct.specs.History.{namesNumber, names, Bearing, adviceBearing, messageBearing, callBearing}
+use Rattle.conduct.specs.History.{namesNumber, names, Bearing, adviceBearing, saysUnreadable, messageBearing, callBearing}
 use Rattle.conduct.specs.History.Bearing.{acknowledged, unreadableMessage, advised}
 use Rattle.session.specs.Answers.{callOf}
-use Rattle.session.specs.Heard.{bearingOf, Naming, OkNaming, AdvisoryNaming, saysUnreadable, OkByItsBytes, UnreadableByItsBytes, AdvisedByItsBytes}
+use Rattle.session.specs.Heard.{bearingOf, Naming, OkNaming, AdvisoryNaming, OkByItsBytes, UnreadableByItsBytes, AdvisedByItsBytes}
 
 -- ---- what a value names
 

@@ -1,31 +1,32 @@
 -- The promises of specs/Code: the answers of the code are the history of the session that the record holds, the records that it hands back
 -- pass the test, a refused call hands back what it took, and the events fit. Assumes nothing.
-use mathlib.Core.Path.{_≡_, refl, ap, ap₂, _∙_}
+use mathlib.Core.Path.{_≡_, refl, ap, _∙_}
 use mathlib.Core.Bool.{Bool, true, false, cond, not}
-use mathlib.Core.List.{[], _∷_, map}
+use mathlib.Core.List.{List, [], _∷_, _++_, map}
 use mathlib.Core.Logic.{⊎-elim}
 use Prim.Native.Nat.{ℕ, zero, suc, _-_, _≤_}
 use native.Mathlib.Omega.{arith}
 use lib.Dec.{leb, ltb, eqb}
 use lib.ListN.{length, drop, replicate}
 use lib.Seq.{drop-append-seam}
-use borrow.Author.Tests.{le-ltb, ltb-false, le-leb, lt-leb, leb-true}
+use borrow.Author.Tests.{le-ltb, lt-ltb, ltb-false, le-leb, lt-leb, leb-true, leb-false}
 use Rattle.laws.proofs.Tests.{and-last}
 use Rattle.conduct.specs.declared.Call.{Call}
-use Rattle.conduct.specs.Lists.{all}
+use Rattle.conduct.specs.declared.Event.{Event}
+use Rattle.conduct.specs.Lists.{those, all}
 use Rattle.conduct.specs.Session.{Session, isStopped, fits, roomFor, allowedInterval, make}
 use Rattle.conduct.specs.Sound.{sound}
 use Rattle.conduct.specs.Step.{step}
-use Rattle.conduct.specs.History.{entry, history}
-use Rattle.conduct.proofs.Lists.{both, both-of}
+use Rattle.conduct.specs.History.{Entry, entry, history}
+use Rattle.conduct.proofs.Lists.{both}
 use Rattle.conduct.proofs.Good.{good}
 use Rattle.conduct.proofs.Refused.{refused-changes-nothing, refused-by}
 use Rattle.conduct.proofs.Few.{few-events}
 use Rattle.conduct.proofs.Reached.{sound-step, made-is-sound}
 use Rattle.session.specs.Rows.{noPush, tableOf, isBlank, eventsOf}
 use Rattle.session.specs.Record.{sessionOf, recordOf, consistent}
-use Rattle.session.specs.Answers.{toldOf, refuse, told}
-use Rattle.session.specs.Code.{Asked, toldBy, seen, roomy, AnswersAreHistory, MadeIsConsistent, ReachedIsConsistent}
+use Rattle.session.specs.Answers.{toldOf, refuse, told, written}
+use Rattle.session.specs.Code.{Asked, toldBy, seen, answers, roomy, heeded, AnswersAreHistory, MadeIsConsistent, ReachedIsConsistent}
 use Rattle.session.specs.Code.{MadeAllowed, MadeRefused, ShortListRefused, InconsistentRefused, RefusedReturnsTheOld, ListFits}
 use Rattle.session.specs.declared.Session.{Session as Record}
 use Rattle.session.specs.declared.Told.{Told}
@@ -96,13 +97,19 @@ inconsistent-refused places d c room = rw (le-ltb places 40 room) (go (consisten
 pub refused-returns-the-old : RefusedReturnsTheOld
 refused-returns-the-old places d c size = go (ltb places 40) (consistent d) refl
   where
+    Unchanged : Told → Type 0
+    Unchanged t = (t .next ≡ d) × (t .events ≡ eventsOf []) × ((list : List Event) → written list t ≡ list)
+
+    unchanged : (t : Told) → t .next ≡ d → t .events ≡ eventsOf [] → Unchanged t
+    unchanged t same none = (same, none, λ list. rw (none, list-of [], events-count _ [] refl) refl)
+
     go : (short passes : Bool) → consistent d ≡ passes → (toldWith places d c short passes .refusal ≡ 0 → ⊥)
-        → (toldWith places d c short passes .next ≡ d) × (toldWith places d c short passes .events ≡ eventsOf [])
-    go true passes e h = (refl, refl)
-    go false false e h = (refl, refl)
+        → Unchanged (toldWith places d c short passes)
+    go true passes e h = unchanged (refuse 3 d) refl refl
+    go false false e h = unchanged (refuse 27 d) refl refl
     go false true e h =
         let r = refused-changes-nothing (sessionOf d) c h in
-        (ap recordOf (r .0) ∙ same-record d size e, ap eventsOf (r .1))
+        unchanged (toldOf (step (sessionOf d) c)) (ap recordOf (r .0) ∙ same-record d size e) (ap eventsOf (r .1))
 
 -- no event is within any list, and what a call says is within one that is not refused
 pub list-fits : ListFits
@@ -128,16 +135,30 @@ seen-entry : (s : Session) (c : Call) → seen c (toldOf (step s c)) ≡ entry s
 seen-entry s c =
     λ i. record { call = c; refusal = step s c .refusal; events = list-of (step s c .events) i; state = step s c .next .state }
 
+heeded-first : (x : Entry) (xs : List Entry) → heeded x ≡ true → those heeded (x ∷ xs) ≡ x ∷ those heeded xs
+heeded-first x xs h = rw h
+
 pub answers-are-history : AnswersAreHistory
-answers-are-history d [] passes room = refl
-answers-are-history d (a ∷ rest) passes room =
-    let s : Session = sessionOf d in
-    let e = both-of (roomy a) (all roomy rest) room in
-    let now = told-steps (a .places) d (a .call) (e .0) passes in
-    let later = answers-are-history (toldBy d a .next) rest (next-consistent (a .places) d (a .call) passes) (e .1) in
-    let after = ap (λ (t : Told). sessionOf (t .next)) now ∙ same-session (step s (a .call) .next) in
-    ap₂ _∷_ (ap (seen (a .call)) now ∙ seen-entry s (a .call))
-    (later ∙ ap (λ (t : Session). history t (map (λ (b : Asked). b .call) rest)) after)
+answers-are-history d [] passes = refl
+answers-are-history d (a ∷ rest) passes = go (roomy a) refl (λ e h. answers-are-history e rest h)
+  where
+    calls : List Asked → List Call
+    calls asked = map (λ (b : Asked). b .call) asked
+
+    go : (room : Bool) → roomy a ≡ room
+        → ((e : Record) → consistent e ≡ true → those heeded (answers e rest) ≡ history (sessionOf e) (calls (those roomy rest)))
+        → those heeded (answers d (a ∷ rest)) ≡ history (sessionOf d) (calls (cond room (a ∷ []) [] ++ those roomy rest))
+    go true e ih =
+        let s : Session = sessionOf d in
+        let now = told-steps (a .places) d (a .call) e passes in
+        let first = ap (seen (a .call)) now ∙ seen-entry s (a .call) in
+        let later = ih (toldBy d a .next) (next-consistent (a .places) d (a .call) passes) in
+        let after = ap (λ (t : Told). sessionOf (t .next)) now ∙ same-session (step s (a .call) .next) in
+        let onward = later ∙ ap (λ (t : Session). history t (calls (those roomy rest))) after in
+        let others : List Entry = answers (toldBy d a .next) rest in
+        ap (λ (x : Entry). those heeded (x ∷ others)) first
+        ∙ (heeded-first (entry s (a .call)) others (ap not (other-refusal (a .places) d (a .call) .0)) ∙ ap (_∷_ (entry s (a .call))) onward)
+    go false e ih = rw (lt-ltb (a .places) 40 (leb-false 40 (a .places) e)) (ih d passes)
 
 -- ---- making one
 

@@ -15,14 +15,14 @@ use Rattle.conduct.specs.declared.Move.{Move}
 use Rattle.conduct.specs.declared.Parting.{Parting}
 use Rattle.conduct.specs.declared.Parting.the-variants.{Nothing, Disconnect, GoingOut, Alert}
 use Rattle.conduct.proofs.Kept.{kept-few}
-use Rattle.session.specs.Rows.{tableOf, rowsOf, Held, eventsOf, listOf, Listed}
+use Rattle.session.specs.Rows.{tableOf, rowsOf, Packed, eventsOf, listOf, Listed}
 use Rattle.session.specs.Written.{writtenOf, sweptOf, remarkedOf, performedOf}
 use Rattle.session.specs.declared.Session.{Session as Record}
 use Rattle.session.specs.declared.writing.Written.{Written}
 use Rattle.session.specs.declared.writing.Swept.{Swept}
 use Rattle.session.specs.declared.writing.Remarked.{Remarked}
 use Rattle.session.specs.declared.writing.Performed.{Performed}
-use Rattle.session.proofs.Rows.{rows-of, held-of, table-count, rows-few, list-of, events-count}
+use Rattle.session.proofs.Rows.{rows-of, packed-of, table-count, rows-few, list-of, events-count}
 use Rattle.session.proofs.Noting.{written-events, written-last, room-for}
 use Rattle.conduct.proofs.Few.{told-few}
 
@@ -88,7 +88,7 @@ module _ (s : Record) (m : Move) (hs : List ℕ) where
           ∙ ap (λ (es : List Event). eventsOf (es ++ told)) (ap listOf events-first ∙ list-of firstEvents)
 
       pub made-room : s .pushes .count + length (opens 0 (m .remark)) ≤ 32
-          → (Held (made .table) × (made .table .count + length (opens 0 (m .remark)) ≤ 32))
+          → (Packed (made .table) × (made .table .count + length (opens 0 (m .remark)) ≤ 32))
           × (Listed (made .events) × (made .events .count < 40))
       made-room room =
           let count = rows-few (s .pushes) in
@@ -96,7 +96,7 @@ module _ (s : Record) (m : Move) (hs : List ℕ) where
           let long : length (firstEvents ++ told) < 40 =
           omega (arith, length-append firstEvents told, few-partings hs (s .last) (m .parting), told-few (m .sweep) (rowsOf (s .pushes)))
           in (
-            (subst⁻¹ Held table-made (held-of kept (omega arith)), omega (arith, table-count (made .table) kept table-made)),
+            (subst⁻¹ Packed table-made (packed-of kept (omega arith)), omega (arith, table-count (made .table) kept table-made)),
             room-for (made .events) (firstEvents ++ told) events-made long,
           )
 

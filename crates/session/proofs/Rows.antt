@@ -8,7 +8,7 @@ use lib.ListN.{length, set, length-append, length-take, length-map}
 use lib.Seq.{take-append-seam, set-append-seam}
 use Rattle.conduct.specs.declared.Push.{Push}
 use Rattle.conduct.specs.declared.Event.{Event}
-use Rattle.session.specs.Rows.{padded, noPush, noEvent, tableOf, rowsOf, Held, eventsOf, listOf, Listed}
+use Rattle.session.specs.Rows.{padded, noPush, noEvent, tableOf, rowsOf, Packed, eventsOf, listOf, Listed}
 use Rattle.session.specs.declared.Table.{Table}
 use Rattle.session.specs.declared.Events.{Events}
 
@@ -34,19 +34,19 @@ pub rows-of : (ps : List Push) → rowsOf (tableOf ps) ≡ ps
 unfolding rowsOf tableOf
 rows-of ps = take-append-seam ps _
 
-pub held-of : (ps : List Push) → length ps ≤ 32 → Held (tableOf ps)
+pub packed-of : (ps : List Push) → length ps ≤ 32 → Packed (tableOf ps)
 unfolding tableOf
-held-of ps room = record { fits = room; exact = ap tableOf (sym (rows-of ps)) }
+packed-of ps room = record { fits = room; exact = ap tableOf (sym (rows-of ps)) }
 
 pub table-count : (t : Table) (ps : List Push) → t ≡ tableOf ps → t .count ≡ length ps
 unfolding tableOf
 table-count t ps e = ap (λ (u : Table). u .count) e
 
-pub held-count : (t : Table) → Held t → t .count ≡ length (rowsOf t)
-held-count t h = table-count t (rowsOf t) (h .exact)
+pub packed-count : (t : Table) → Packed t → t .count ≡ length (rowsOf t)
+packed-count t h = table-count t (rowsOf t) (h .exact)
 
-pub held-same : (t : Table) → Held t → t ≡ tableOf (rowsOf t ++ [])
-held-same t h = h .exact ∙ ap tableOf (sym (append-nil (rowsOf t)))
+pub packed-same : (t : Table) → Packed t → t ≡ tableOf (rowsOf t ++ [])
+packed-same t h = h .exact ∙ ap tableOf (sym (append-nil (rowsOf t)))
 
 -- of any table, and of one with room for its count
 pub rows-few : (t : Table) → length (rowsOf t) ≤ t .count

@@ -38,6 +38,9 @@ abbrev pub callOf : Reading Message → Call
 callOf (whole m) = calls.Heard m
 callOf (refused number place) = calls.Unreadable number
 
+abbrev pub callOfBytes : List ℕ → Call
+callOfBytes bytes = callOf (messageOf classOf linkLimits bytes)
+
 -- ---- the same with a lent list: what is answered, and what the list holds then
 
 abbrev pub saidOf : Told → Said
@@ -50,7 +53,3 @@ written list t = listOf (t .events) ++ drop (t .events .count) list
 -- what a call with a lent list promises: the answer r, and the list as it is left
 abbrev pub SaysAndWrites : Told → List Event → Said → List Event → Type 0
 SaysAndWrites t list r left = (r ≡ saidOf t) × (left ≡ written list t)
-
--- what the bytes of a message stand for
-abbrev pub callOfBytes : List ℕ → Call
-callOfBytes bytes = callOf (messageOf classOf linkLimits bytes)

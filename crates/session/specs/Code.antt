@@ -1,4 +1,4 @@
--- Promise 8, the code's answers are the history: what calls of a record answer, call by call, is what its session does. (proofs/Histories)
+-- Promise: the code's answers are the history: what calls of a record answer, call by call, is what its session does. (proofs/Histories)
 -- By their contracts the public calls answer `told`, so what is said here of `told` is said of the code. Assumes nothing.
 use mathlib.Core.Path.{_≡_}
 use mathlib.Core.Bool.{Bool, true, not}
@@ -8,13 +8,14 @@ use Prim.Native.Nat.{ℕ, _≤_, _<_}
 use lib.Dec.{leb, ltb, eqb}
 use lib.ListN.{length}
 use Rattle.conduct.specs.declared.Call.{Call}
+use Rattle.conduct.specs.declared.Event.{Event}
 use Rattle.conduct.specs.declared.State.the-variants.{Stopped}
-use Rattle.conduct.specs.Lists.{all}
+use Rattle.conduct.specs.Lists.{those}
 use Rattle.conduct.specs.Session.{fresh}
 use Rattle.conduct.specs.History.{Entry, history}
 use Rattle.session.specs.Rows.{rowsOf, eventsOf, listOf}
 use Rattle.session.specs.Record.{sessionOf, recordOf, consistent, madeOf}
-use Rattle.session.specs.Answers.{told}
+use Rattle.session.specs.Answers.{told, written}
 use Rattle.session.specs.declared.Session.{Session as Record}
 use Rattle.session.specs.declared.Told.{Told}
 
@@ -40,14 +41,18 @@ abbrev pub answers : Record → List Asked → List Entry
 answers d [] = []
 answers d (a ∷ rest) = seen (a .call) (toldBy d a) ∷ answers (toldBy d a .next) rest
 
--- with no list too short, from any record that passes the test
+-- whether the list of a call is long enough, and whether an answer is another than that it is not
 abbrev pub roomy : Asked → Bool
 roomy a = leb 40 (a .places)
 
+abbrev pub heeded : Entry → Bool
+heeded x = not (eqb (x .refusal) 3)
+
+-- A call with too short a list is refused and leaves no trace: from any record that passes the test, the other answers are the history of the other calls.
 abbrev pub AnswersAreHistory : Type 0
 AnswersAreHistory =
-    (d : Record) (asked : List Asked) → consistent d ≡ true → all roomy asked ≡ true
-    → answers d asked ≡ history (sessionOf d) (map (λ (a : Asked). a .call) asked)
+    (d : Record) (asked : List Asked) → consistent d ≡ true
+    → those heeded (answers d asked) ≡ history (sessionOf d) (map (λ (a : Asked). a .call) (those roomy asked))
 
 -- ---- 27 is for no record that was made, nor for one that calls with any lists reached from one that passes
 
@@ -78,11 +83,11 @@ ShortListRefused = (places : ℕ) (d : Record) (c : Call) → eqb (told places d
 abbrev pub InconsistentRefused : Type 0
 InconsistentRefused = (places : ℕ) (d : Record) (c : Call) → 40 ≤ places → eqb (told places d c .refusal) 27 ≡ not (consistent d)
 
--- a refused call hands back the record as it was, whatever is in it, and no event; each record of the code has 32 rows
+-- a refused call hands back the record as it was, whatever is in it, and no event, and leaves a lent list as it was; each record of the code has 32 rows
 abbrev pub RefusedReturnsTheOld : Type 0
 RefusedReturnsTheOld =
     (places : ℕ) (d : Record) (c : Call) → length (d .pushes .rows) ≡ 32 → (told places d c .refusal ≡ 0 → ⊥)
-    → (told places d c .next ≡ d) × (told places d c .events ≡ eventsOf [])
+    → (told places d c .next ≡ d) × (told places d c .events ≡ eventsOf []) × ((list : List Event) → written list (told places d c) ≡ list)
 
 -- ---- the events fit any list that is not refused
 

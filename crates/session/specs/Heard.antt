@@ -1,7 +1,7 @@
--- Promise 7, what bears on a push, by the bytes of a message that is handed in: so that demand 3's "an Ok with its number" is said of bytes. (proofs/Heard)
+-- Promise: what bears on a push, by the bytes of a message that is handed in: so that demand 3's "an Ok with its number" is said of bytes. (proofs/Heard)
 -- Assumes nothing.
 use mathlib.Core.Path.{_≡_}
-use mathlib.Core.Bool.{Bool, true, false, _&&_}
+use mathlib.Core.Bool.{true, false}
 use mathlib.Core.List.{List, [], _∷_}
 use Prim.Native.Nat.{ℕ}
 use Rattle.message.specs.Class.{classOf}
@@ -13,7 +13,7 @@ use Rattle.message.specs.declared.Kind.the-variants as kinds
 use Rattle.message.specs.declared.Number.the-variants as numbers
 use Rattle.message.specs.declared.NumberValue.{NumberValue}
 use Rattle.message.specs.declared.Message.{Message}
-use Rattle.conduct.specs.History.{isUnreadableMessage, Bearing, callBearing}
+use Rattle.conduct.specs.History.{Bearing, saysUnreadable, callBearing}
 use Rattle.conduct.specs.History.Bearing.{acknowledged, unreadableMessage, advised}
 use Rattle.session.specs.Answers.{callOfBytes}
 
@@ -34,10 +34,6 @@ OkNaming bytes n = Naming bytes kinds.Ok (λ m. m .«in_response_to») n
 
 abbrev pub AdvisoryNaming : List ℕ → ℕ → Type 0
 AdvisoryNaming bytes n = Naming bytes kinds.Advisory (λ m. m .«in_relation_to») n
-
--- its type is there and is UnreadableMessage
-abbrev pub saysUnreadable : Message → Bool
-saysUnreadable m = m .«advisory_type» .there && isUnreadableMessage (m .«advisory_type» .advice)
 
 -- An Ok with its number is bytes that are read as an Ok whose inResponseTo names it.
 abbrev pub OkByItsBytes : Type 0

@@ -17,7 +17,7 @@ sessionOf d = record { interval = d .interval; state = d .state; pushes = rowsOf
 abbrev pub recordOf : Session → Record
 recordOf s = record { interval = s .interval; state = s .state; pushes = tableOf (s .pushes); last = s .last }
 
--- the count is at most 32, blanks follow, and the session can have come about
+-- the count is at most 32, blanks follow, and the session has what every one has that was made or reached from one
 abbrev pub consistent : Record → Bool
 consistent d = leb (d .pushes .count) 32 && (all isBlank (drop (d .pushes .count) (d .pushes .rows)) && sound (sessionOf d))
 

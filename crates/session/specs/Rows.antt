@@ -31,7 +31,7 @@ unfoldable pub rowsOf : Table → List Push
 rowsOf t = take (t .count) (t .rows)
 
 -- a table that has room for its count, and blanks behind it
-pub record Held (t : Table) : Type 0 where
+pub record Packed (t : Table) : Type 0 where
   pub fits : t .count ≤ 32
   pub exact : t ≡ tableOf (rowsOf t)
 

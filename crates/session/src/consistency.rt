@@ -7,7 +7,7 @@ use rules::sound;
 ghost use mathlib.Core.Path.{_≡_};
 ghost use Rattle.session.specs.Record.{consistent};
 
-// Whether the session was made, or can be reached from one that was.
+// What every session has that was made, or reached from one that was; others may have it too.
 pub(crate) fn is_consistent(s: Session) -> bool
     ensures { λ r. ⌜ r ≡ consistent s ⌝ }
 {
@@ -26,7 +26,7 @@ pub(crate) fn is_consistent(s: Session) -> bool
     if !sound::is_state_sound(s.interval, state) {
         return false;
     }
-    if !sound::is_quiet(state, count) {
+    if !sound::is_count_sound(state, count) {
         return false;
     }
     if !table.all_sound() {

@@ -5,7 +5,7 @@ ghost use mathlib.Core.Path.{_≡_};
 ghost use lib.ListN.{length};
 ghost use Rattle.session.specs.Lent.{fitOf, given};
 
-// How many places the events of a call have: more than one call can give.
+// The places for the events of a call, which gives at most 34.
 const MOST: usize = 40;
 
 // How many events are written: all, or none where there are not so many or they have no room.

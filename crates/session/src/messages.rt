@@ -67,14 +67,14 @@ fn ok_naming(s: Session, held: &[u32], n: u32) -> Move
 {
     let state = s.state;
     match state {
-        State::Waiting(_) => moves::unmatched(state),
-        State::Connecting => moves::unmatched(state),
-        State::Opening(_) => moves::unmatched(state),
+        State::Waiting(_) => moves::matches_nothing(state),
+        State::Connecting => moves::matches_nothing(state),
+        State::Opening(_) => moves::matches_nothing(state),
         State::Confirming(number, age) => {
             if n == number {
                 moves::goes(State::Up(Awaited::Nothing, age), Remark::Note(codes::UP, 0))
             } else {
-                moves::unmatched(state)
+                moves::matches_nothing(state)
             }
         }
         State::Up(awaited, age) => {
@@ -83,10 +83,10 @@ fn ok_naming(s: Session, held: &[u32], n: u32) -> Move
             } else if numbers::is_among(held, n) {
                 moves::touches(state, Sweep::Acknowledged(n))
             } else {
-                moves::unmatched(state)
+                moves::matches_nothing(state)
             }
         }
-        State::Stopped => moves::unmatched(state),
+        State::Stopped => moves::matches_nothing(state),
     }
 }
 
@@ -97,7 +97,7 @@ fn acknowledged(s: Session, held: &[u32], number: Number) -> Move
     match number {
         Number::Nothing => {
             let state = s.state;
-            moves::unmatched(state)
+            moves::matches_nothing(state)
         }
         Number::Names(n) => ok_naming(s, held, n),
     }
@@ -110,14 +110,14 @@ fn advisory_naming(s: Session, held: &[u32], advice: Advice, n: u32) -> Move
 {
     let state = s.state;
     match state {
-        State::Waiting(_) => moves::unmatched(state),
-        State::Connecting => moves::unmatched(state),
-        State::Opening(_) => moves::unmatched(state),
+        State::Waiting(_) => moves::matches_nothing(state),
+        State::Connecting => moves::matches_nothing(state),
+        State::Opening(_) => moves::matches_nothing(state),
         State::Confirming(number, _) => {
             if n == number {
                 moves::waits(Parting::Disconnect)
             } else {
-                moves::unmatched(state)
+                moves::matches_nothing(state)
             }
         }
         State::Up(awaited, age) => {
@@ -129,10 +129,10 @@ fn advisory_naming(s: Session, held: &[u32], advice: Advice, n: u32) -> Move
             } else if numbers::is_among(held, n) {
                 moves::touches(state, heard::advises(advice, n))
             } else {
-                moves::unmatched(state)
+                moves::matches_nothing(state)
             }
         }
-        State::Stopped => moves::unmatched(state),
+        State::Stopped => moves::matches_nothing(state),
     }
 }
 
@@ -143,7 +143,7 @@ fn advised_about(s: Session, held: &[u32], advice: Advice, number: Number) -> Mo
     match number {
         Number::Nothing => {
             let state = s.state;
-            moves::unmatched(state)
+            moves::matches_nothing(state)
         }
         Number::Names(n) => advisory_naming(s, held, advice, n),
     }

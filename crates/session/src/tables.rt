@@ -9,7 +9,7 @@ ghost use Prim.Native.Nat.{_≤_, _<_};
 ghost use lib.ListN.{drop};
 ghost use Rattle.conduct.specs.Lists.{all};
 ghost use Rattle.conduct.specs.Sound.{soundPush};
-ghost use Rattle.session.specs.Rows.{Held, tableOf, rowsOf, isBlank as Rows·isBlank};
+ghost use Rattle.session.specs.Rows.{Packed, tableOf, rowsOf, isBlank as Rows·isBlank};
 
 pub(crate) const MOST: usize = 32;
 
@@ -52,7 +52,7 @@ fn is_blank(p: Push) -> bool
 impl Table {
     // One push more, at the end.
     pub(crate) fn add(mut self, p: Push) -> Table
-        requires { ⌜ Held self ⌝ }
+        requires { ⌜ Packed self ⌝ }
         requires { ⌜ self .count < 32 ⌝ }
         ensures { λ r. ⌜ r ≡ tableOf (rowsOf self ++ (p ∷ [])) ⌝ }
     {

@@ -21,7 +21,7 @@ ghost use lib.ListN.{length};
 ghost use Rattle.conduct.specs.Codes.{sending as Codes·sending};
 ghost use Rattle.conduct.specs.Session.{held as Session·held};
 ghost use Rattle.conduct.specs.Step.{noted as note, partingNotes, opens, movedBy, eventsBy};
-ghost use Rattle.session.specs.Rows.{Held, rowsOf, Listed, eventsOf, listOf};
+ghost use Rattle.session.specs.Rows.{Packed, rowsOf, Listed, eventsOf, listOf};
 ghost use Rattle.session.specs.Record.{sessionOf};
 ghost use Rattle.session.specs.Written.{performedOf, notedBy, allNoted, sweptBy, remarkedBy};
 
@@ -185,7 +185,7 @@ fn sending(what: Pushed) -> u32
 
 // What the call says beside that, and the push that it opens.
 fn remark_all(held: &[u32], made: Swept, last: u32, remark: Remark) -> Remarked
-    requires { ⌜ (Held (made .table)) × (made .table .count + length (opens 0 remark) ≤ 32) ⌝ }
+    requires { ⌜ (Packed (made .table)) × (made .table .count + length (opens 0 remark) ≤ 32) ⌝ }
     requires { ⌜ (Listed (made .events)) × (made .events .count < 40) ⌝ }
     ensures { λ r. ⌜ r ≡ remarkedBy (now (held .entry)) (rowsOf (made .table)) (listOf (made .events)) last remark ⌝ }
 {

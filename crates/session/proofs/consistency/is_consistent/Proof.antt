@@ -73,13 +73,13 @@ counted : (c : tie.Else4) {b : Bool} → (isUp (at-4 c .state) || eqb (at-4 c .p
     → (isUp (at-4 c .state) || eqb (length (rowsOf (at-4 c .pushes))) 0) ≡ b
 counted c e = ap (λ (n : ℕ). isUp (at-4 c .state) || eqb n 0) (size c) ∙ e
 
-quiet : (c : tie.Else5) → from-pushes (sessionOf (at-5 c)) ≡ consistent (at-5 c)
-quiet c =
-    let passes = counted (c .before .before) (sym (c .before .is-quiet .ensures) ∙ not-false _ (c .if5 .left)) in
+sound-count : (c : tie.Else5) → from-pushes (sessionOf (at-5 c)) ≡ consistent (at-5 c)
+sound-count c =
+    let passes = counted (c .before .before) (sym (c .before .is-count-sound .ensures) ∙ not-false _ (c .if5 .left)) in
     and-true _ passes ∙ few (c .before .before)
 
 each-sound : (c : tie.Else6) → distinct (held (sessionOf (at-6 c))) ≡ consistent (at-6 c)
-each-sound c = and-true _ (sym (c .before .all-sound .ensures) ∙ not-false _ (c .if6 .left)) ∙ quiet (c .before .before)
+each-sound c = and-true _ (sym (c .before .all-sound .ensures) ∙ not-false _ (c .if6 .left)) ∙ sound-count (c .before .before)
 
 -- the held numbers stand in their places
 inside : (c : tie.After-held) → c .held .result .count ≤ length (c .held .result .numbers)
@@ -108,19 +108,19 @@ is-state-sound-requires c κs = search needs
 returns-4 : tie.Need-returns-4
 returns-4 c = and-false _ (sym (c .before .is-state-sound .ensures) ∙ not-true _ (c .if4 .taken)) ∙ allowed (c .before .before)
 
-is-quiet-requires : tie.Need-is-quiet-requires
-is-quiet-requires c κs = search needs
+is-count-sound-requires : tie.Need-is-count-sound-requires
+is-count-sound-requires c κs = search needs
 
 returns-5 : tie.Need-returns-5
 returns-5 c =
-    let fails = counted (c .before .before) (sym (c .before .is-quiet .ensures) ∙ not-true _ (c .if5 .taken)) in
+    let fails = counted (c .before .before) (sym (c .before .is-count-sound .ensures) ∙ not-true _ (c .if5 .taken)) in
     and-false _ fails ∙ few (c .before .before)
 
 all-sound-requires : tie.Need-all-sound-requires
 all-sound-requires c κs = search needs
 
 returns-6 : tie.Need-returns-6
-returns-6 c = and-false _ (sym (c .before .all-sound .ensures) ∙ not-true _ (c .if6 .taken)) ∙ quiet (c .before .before)
+returns-6 c = and-false _ (sym (c .before .all-sound .ensures) ∙ not-true _ (c .if6 .taken)) ∙ sound-count (c .before .before)
 
 held-requires : tie.Need-held-requires
 held-requires c κs = search needs
@@ -150,7 +150,7 @@ is-consistent-spec =
     returns-3
     is-state-sound-requires
     returns-4
-    is-quiet-requires
+    is-count-sound-requires
     returns-5
     all-sound-requires
     returns-6

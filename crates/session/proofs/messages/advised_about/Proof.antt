@@ -6,8 +6,8 @@ use Rattle.session.proofs.messages.advised_about.Tie as tie
 enum-told : tie.Need-enum-told
 enum-told c = search needs
 
-unmatched-requires : tie.Need-unmatched-requires
-unmatched-requires c κs = search needs
+matches-nothing-requires : tie.Need-matches-nothing-requires
+matches-nothing-requires c κs = search needs
 
 enum-known-number : tie.Need-enum-known-number
 enum-known-number c = search needs
@@ -16,7 +16,7 @@ advisory-naming-requires : tie.Need-advisory-naming-requires
 advisory-naming-requires c κs = search needs
 
 returns : tie.Need-returns
-returns c = rw (c .before .enum-told .given .1) (c .unmatched .ensures)
+returns c = rw (c .before .enum-told .given .1) (c .matches-nothing .ensures)
 
 returns-2 : tie.Need-returns-2
 returns-2 c = rw (c .before .before .number .given .1) (c .advisory-naming .ensures)
@@ -26,7 +26,7 @@ advised-about-spec =
     tie.close
     (tie.spec
     enum-told
-    unmatched-requires
+    matches-nothing-requires
     enum-known-number
     advisory-naming-requires
     returns

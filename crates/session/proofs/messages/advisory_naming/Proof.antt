@@ -27,20 +27,20 @@ named c =
 enum-told : tie.Need-enum-told
 enum-told c = search needs
 
-unmatched-requires : tie.Need-unmatched-requires
-unmatched-requires c κs = search needs
+matches-nothing-requires : tie.Need-matches-nothing-requires
+matches-nothing-requires c κs = search needs
 
 enum-told-2 : tie.Need-enum-told-2
 enum-told-2 c = search needs
 
-unmatched-requires-2 : tie.Need-unmatched-requires-2
-unmatched-requires-2 c κs = search needs
+matches-nothing-requires-2 : tie.Need-matches-nothing-requires-2
+matches-nothing-requires-2 c κs = search needs
 
 enum-told-3 : tie.Need-enum-told-3
 enum-told-3 c = search needs
 
-unmatched-requires-3 : tie.Need-unmatched-requires-3
-unmatched-requires-3 c κs = search needs
+matches-nothing-requires-3 : tie.Need-matches-nothing-requires-3
+matches-nothing-requires-3 c κs = search needs
 
 enum-known-state : tie.Need-enum-known-state
 enum-known-state c = search needs
@@ -48,8 +48,8 @@ enum-known-state c = search needs
 waits-requires : tie.Need-waits-requires
 waits-requires c κs = search needs
 
-unmatched-requires-4 : tie.Need-unmatched-requires-4
-unmatched-requires-4 c κs = search needs
+matches-nothing-requires-4 : tie.Need-matches-nothing-requires-4
+matches-nothing-requires-4 c κs = search needs
 
 enum-known-state-2 : tie.Need-enum-known-state-2
 enum-known-state-2 c = search needs
@@ -69,35 +69,35 @@ advises-requires c κs = search needs
 touches-requires : tie.Need-touches-requires
 touches-requires c κs = search needs
 
-unmatched-requires-5 : tie.Need-unmatched-requires-5
-unmatched-requires-5 c κs = search needs
+matches-nothing-requires-5 : tie.Need-matches-nothing-requires-5
+matches-nothing-requires-5 c κs = search needs
 
 enum-told-4 : tie.Need-enum-told-4
 enum-told-4 c = search needs
 
-unmatched-requires-6 : tie.Need-unmatched-requires-6
-unmatched-requires-6 c κs = search needs
+matches-nothing-requires-6 : tie.Need-matches-nothing-requires-6
+matches-nothing-requires-6 c κs = search needs
 
 returns : tie.Need-returns
 returns c =
     let e = c .before .enum-told .given .1 in
-    rw e (rw e at (c .unmatched .ensures))
+    rw e (rw e at (c .matches-nothing .ensures))
 
 returns-2 : tie.Need-returns-2
 returns-2 c =
     let e = c .before .enum-told2 .given .1 in
-    rw e (rw e at (c .unmatched2 .ensures))
+    rw e (rw e at (c .matches-nothing2 .ensures))
 
 returns-3 : tie.Need-returns-3
 returns-3 c =
     let e = c .before .enum-told3 .given .1 in
-    rw e (rw e at (c .unmatched3 .ensures))
+    rw e (rw e at (c .matches-nothing3 .ensures))
 
 returns-4 : tie.Need-returns-4
 returns-4 c = rw (c .before .before .before .state .given .1, eq-eqb _ _ (c .before .if1 .taken)) (c .waits .ensures)
 
 returns-5 : tie.Need-returns-5
-returns-5 c = rw (c .before .before .before .state .given .1, ne-eqb _ _ (c .before .if1 .left)) (c .unmatched4 .ensures)
+returns-5 c = rw (c .before .before .before .state .given .1, ne-eqb _ _ (c .before .if1 .left)) (c .matches-nothing4 .ensures)
 
 returns-6 : tie.Need-returns-6
 returns-6 c =
@@ -113,35 +113,35 @@ returns-7 c =
 returns-8 : tie.Need-returns-8
 returns-8 c =
     let at = c .before .before in
-    rw (at .before .before .before .before .state2 .given .1, other (at .before), named at ∙ c .before .if3 .left) (c .unmatched5 .ensures)
+    rw (at .before .before .before .before .state2 .given .1, other (at .before), named at ∙ c .before .if3 .left) (c .matches-nothing5 .ensures)
 
 returns-9 : tie.Need-returns-9
 returns-9 c =
     let e = c .before .enum-told4 .given .1 in
-    rw e (rw e at (c .unmatched6 .ensures))
+    rw e (rw e at (c .matches-nothing6 .ensures))
 
 pub advisory-naming-spec : {M : Type 1} → statement M
 advisory-naming-spec =
     tie.close
     (tie.spec
     enum-told
-    unmatched-requires
+    matches-nothing-requires
     enum-told-2
-    unmatched-requires-2
+    matches-nothing-requires-2
     enum-told-3
-    unmatched-requires-3
+    matches-nothing-requires-3
     enum-known-state
     waits-requires
-    unmatched-requires-4
+    matches-nothing-requires-4
     enum-known-state-2
     is-awaited-requires
     goes-requires
     is-among-requires
     advises-requires
     touches-requires
-    unmatched-requires-5
+    matches-nothing-requires-5
     enum-told-4
-    unmatched-requires-6
+    matches-nothing-requires-6
     returns
     returns-2
     returns-3

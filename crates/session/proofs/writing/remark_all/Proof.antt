@@ -3,7 +3,7 @@ use native.Mathlib.Omega.{arith}
 use borrow.Author.Needs.{needs}
 use denote.Ref.{now}
 use Rattle.session.specs.Rows.{rowsOf, listOf}
-use Rattle.session.proofs.Rows.{held-same, listed-same}
+use Rattle.session.proofs.Rows.{packed-same, listed-same}
 use Rattle.session.proofs.Noting.{written}
 use Rattle.session.proofs.Remarks.{nothing-said, note-said, push-said}
 use Rattle.session.proofs.writing.remark_all.Statement.{statement}
@@ -38,14 +38,14 @@ returns c =
     let s = c .before .before .before .before .before in
     let a = s .args in
     nothing-said (now (a .held)) (a .last) (rowsOf (a .made .table)) (listOf (a .made .events)) _ _ (a .remark) (c .enum-told .given .1)
-    (held-same _ (s .pre .0 .0)) (written _ _ _ (listed-same _ (s .pre .1 .0)))
+    (packed-same _ (s .pre .0 .0)) (written _ _ _ (listed-same _ (s .pre .1 .0)))
 
 returns-2 : tie.Need-returns-2
 returns-2 c =
     let s = c .before .before .before .before .before .before .before in
     let a = s .args in
     note-said (now (a .held)) (a .last) (rowsOf (a .made .table)) (listOf (a .made .events)) _ _ (a .remark)
-    (c .before .before .remark .given .1) (held-same _ (s .pre .0 .0)) (c .noted .ensures)
+    (c .before .before .remark .given .1) (packed-same _ (s .pre .0 .0)) (c .noted .ensures)
 
 returns-3 : tie.Need-returns-3
 returns-3 c =

@@ -1,7 +1,7 @@
--- `rules::sound::is_quiet` meets its contract. Assumes nothing.
+-- `rules::sound::is_count_sound` meets its contract. Assumes nothing.
 use borrow.Author.Needs.{needs}
-use Rattle.rules.proofs.sound.is_quiet.Statement.{statement}
-use Rattle.rules.proofs.sound.is_quiet.Tie as tie
+use Rattle.rules.proofs.sound.is_count_sound.Statement.{statement}
+use Rattle.rules.proofs.sound.is_count_sound.Tie as tie
 use mathlib.Core.Path.{sym, _∙_}
 use Rattle.message.proofs.Laws.{or-false}
 
@@ -14,5 +14,5 @@ returns c = search needs
 returns-2 : tie.Need-returns-2
 returns-2 c = or-false _ (sym (c .before .is-up .ensures) ∙ c .if1 .left)
 
-pub is-quiet-spec : {M : Type 1} → statement M
-is-quiet-spec = tie.close (tie.spec is-up-requires returns returns-2)
+pub is-count-sound-spec : {M : Type 1} → statement M
+is-count-sound-spec = tie.close (tie.spec is-up-requires returns returns-2)
