@@ -15,7 +15,7 @@
 -- openings of 12 in both ways, `Causes` that what stops the machine is due, and `Blocked` that it does not go past what is due.
 -- The promises. `Nine` proves specs/Nine, `Raising` specs/Raised, `Earliest` specs/Places and specs/Earliest, `Seven`, `Delimited`, `Children` and `NamesStand`
 -- specs/Seven, `Meanings`, `References` and `BeyondAscii` specs/Meanings, and `Alphabet`, `Utf8Ranges` and `Utf8`
--- specs/Alphabet. The files `…AtWork` and `NumbersForC` compute the examples of specs/Examples.
+-- specs/Alphabet. The files `…AtWork` and `NumbersForC` compute the examples of specs/Examples and specs/ExamplesOfMessages.
 pub mod Laws
 pub mod Digits
 pub mod Bytes
