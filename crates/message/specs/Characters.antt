@@ -78,8 +78,7 @@ digitOf x = cond (leb x 57) (x - 48) (cond (leb x 70) (x - 55) (x - 87))
 abbrev pub isDigit : ℕ → ℕ → Bool
 isDigit base x = hexDigit x && ltb (digitOf x) base
 
--- The digits from the place on, after others that make the number n: a digit that passes the last character of all is dead. The fuel, where a reader has
--- one, is the message's length or one more where it is called, and each step goes on by a byte at least: so it is never used up.
+-- the digits from the place on, after others that make the number n: a digit that passes the last character of all is dead
 unfoldable pub digitsAt : ℕ → ℕ → ℕ → List ℕ → ℕ → Reading Character
 digitsAt zero base n s at = refused 9 at
 digitsAt (suc fuel) base n s at =
