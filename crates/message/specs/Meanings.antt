@@ -40,9 +40,11 @@ module _ (s : List ℕ) where
   -- reference is the character that it names
   pub data ValueSays (to : ℕ) : ℕ → List ℕ → Type 0 where
     done : {at : ℕ} → to ≤ at → ValueSays to at []
-    pair : {at : ℕ} {text : List ℕ} → at < to → has (is 13) s at ≡ true → has (is 10) s (at + 1) ≡ true → ValueSays to (at + 2) text → ValueSays to at (32 ∷ text)
+    pair : {at : ℕ} {text : List ℕ} → at < to → has (is 13) s at ≡ true → has (is 10) s (at + 1) ≡ true → ValueSays to (at + 2) text
+        → ValueSays to at (32 ∷ text)
     space : {at : ℕ} {text : List ℕ} → at < to → Break at → ValueSays to (at + 1) text → ValueSays to at (32 ∷ text)
-    byte : {at : ℕ} {text : List ℕ} → at < to → NoBreak at → has (isText classOf) s at ≡ true → ValueSays to (at + 1) text → ValueSays to at (byteAt s at ∷ text)
+    byte : {at : ℕ} {text : List ℕ} → at < to → NoBreak at → has (isText classOf) s at ≡ true → ValueSays to (at + 1) text
+        → ValueSays to at (byteAt s at ∷ text)
     special : {at : ℕ} {text : List ℕ} (c : Character) → at < to → NoBreak at → has (isText classOf) s at ≡ false → specialAt s at ≡ whole c
         → ValueSays to (c .end) text → ValueSays to at (c .code ∷ text)
 
@@ -50,12 +52,14 @@ module _ (s : List ℕ) where
   pub data ContentSays (to : ℕ) : ℕ → List ℕ → Type 0 where
     done : {at : ℕ} → to ≤ at → ContentSays to at []
     comment : {at e : ℕ} {text : List ℕ} → at < to → has (is 60) s at ≡ true → bangAt classOf s at ≡ whole e → ContentSays to e text → ContentSays to at text
-    pair : {at : ℕ} {text : List ℕ} → at < to → has (is 13) s at ≡ true → has (is 10) s (at + 1) ≡ true → ContentSays to (at + 2) text → ContentSays to at (10 ∷ text)
-    line : {at : ℕ} {text : List ℕ} → at < to → has (is 13) s at ≡ true → has (is 10) s (at + 1) ≡ false → ContentSays to (at + 1) text → ContentSays to at (10 ∷ text)
-    byte : {at : ℕ} {text : List ℕ} → at < to → has (is 60) s at ≡ false → has (is 13) s at ≡ false → has (isText classOf) s at ≡ true → ContentSays to (at + 1) text
-        → ContentSays to at (byteAt s at ∷ text)
-    special : {at : ℕ} {text : List ℕ} (c : Character) → at < to → has (is 60) s at ≡ false → has (is 13) s at ≡ false → has (isText classOf) s at ≡ false → specialAt s at ≡ whole c
-        → ContentSays to (c .end) text → ContentSays to at (c .code ∷ text)
+    pair : {at : ℕ} {text : List ℕ} → at < to → has (is 13) s at ≡ true → has (is 10) s (at + 1) ≡ true → ContentSays to (at + 2) text
+        → ContentSays to at (10 ∷ text)
+    line : {at : ℕ} {text : List ℕ} → at < to → has (is 13) s at ≡ true → has (is 10) s (at + 1) ≡ false → ContentSays to (at + 1) text
+        → ContentSays to at (10 ∷ text)
+    byte : {at : ℕ} {text : List ℕ} → at < to → has (is 60) s at ≡ false → has (is 13) s at ≡ false → has (isText classOf) s at ≡ true
+        → ContentSays to (at + 1) text → ContentSays to at (byteAt s at ∷ text)
+    special : {at : ℕ} {text : List ℕ} (c : Character) → at < to → has (is 60) s at ≡ false → has (is 13) s at ≡ false → has (isText classOf) s at ≡ false
+        → specialAt s at ≡ whole c → ContentSays to (c .end) text → ContentSays to at (c .code ∷ text)
 
 -- ---- the characters that references name
 
