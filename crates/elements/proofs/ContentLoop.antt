@@ -13,7 +13,7 @@ use Rattle.message.specs.Reading.Reading.{whole, refused}
 use Rattle.message.proofs.Laws.{went, stopped, cond-true, cond-false}
 use Rattle.message.proofs.Loops.{Fuelled, Left, left-first, left-on, left-done}
 use Rattle.message.specs.Limits.{linkLimits}
-use Rattle.message.specs.Elements.{Elements, Element, Start, Content, freeAt, endTagAt, startAt, contentAt, restAt, tooDeepAt, elementAt}
+use Rattle.message.specs.Elements.{Elements, Element, Start, Content, closed, nested, filled, freeAt, endTagAt, startAt, contentAt, restAt, tooDeepAt, elementAt}
 use Rattle.message.specs.Elements.Elements.{none, more}
 use Rattle.elements.specs.Seen.{count, nothingInside, markOf, typedIn, insideOf, seenOf, seen, noted}
 use Rattle.elements.specs.Held.{nameOf, startedSaid, typeMark, emptySeen, closing}
@@ -83,8 +83,8 @@ module _ (class : ℕ → ℕ) (s : List ℕ) (child : ℕ → Reading Element) 
   opened = record { begin = start .begin; name = nameOf start; from = start .from; empty = start .empty }
 
   -- an element whose content has been read, behind elements that were held on to
-  abbrev filled : Inside → Content → Seen
-  filled i c = record { begin = start .begin; from = start .from; to = c .to; end = c .end; mark = typeMark s start; inside = add s i (c .inside) }
+  abbrev held : Inside → Content → Seen
+  held i c = record { begin = start .begin; from = start .from; to = c .to; end = c .end; mark = typeMark s start; inside = add s i (c .inside) }
 
   -- the loop stands at a place, with what it holds on to
   pub record Standing : Type 0 where
@@ -92,7 +92,7 @@ module _ (class : ℕ → ℕ) (s : List ℕ) (child : ℕ → Reading Element) 
     pub inside : Inside
 
   abbrev pub readsContent : ℕ → Standing → Reading Seen
-  readsContent fuel p = contentAt class s linkLimits fuel child opened (p .at) >>= (λ c. whole (filled (p .inside) c))
+  readsContent fuel p = contentAt class s linkLimits fuel child opened (p .at) >>= (λ c. whole (held (p .inside) c))
 
   abbrev pub contentStep : Standing → (Standing → Reading Seen) → Reading Seen
   contentStep p next =
@@ -105,11 +105,11 @@ module _ (class : ℕ → ℕ) (s : List ℕ) (child : ℕ → Reading Element) 
   content-turn fuel p = then-then (freeAt class s (length s) (p .at)) _ _ ∙ then-same _ _ (freeAt class s (length s) (p .at)) (λ stop q. go stop (has (is 47) s (stop + 1)))
     where
       whole-content : Content → Reading Seen
-      whole-content c = whole (filled (p .inside) c)
+      whole-content c = whole (held (p .inside) c)
 
       go : (stop : ℕ) (t : Bool)
-          → (cond t (endTagAt class s linkLimits (start .begin) (nameOf start) (stop + 2) >>= (λ e. whole (record { inside = none; to = stop; end = e })))
-          (child stop >>= (λ e. contentAt class s linkLimits fuel child opened (e .tag .end) >>= (λ c. whole (record { inside = more (e .tag) (e .inside) (c .inside); to = c .to; end = c .end }))))
+          → (cond t (endTagAt class s linkLimits (start .begin) (nameOf start) (stop + 2) >>= (λ e. whole (closed stop e)))
+          (child stop >>= (λ e. contentAt class s linkLimits fuel child opened (e .tag .end) >>= (λ c. whole (nested e c))))
           >>= whole-content)
           ≡ cond t (closing class s start stop (p .inside)) (child stop >>= (λ e. readsContent fuel (record { at = e .tag .end; inside = noted (p .inside) (seenOf s e) })))
       go stop true = then-then (endTagAt class s linkLimits (start .begin) (nameOf start) (stop + 2)) _ _
@@ -136,11 +136,8 @@ module _ (class : ℕ → ℕ) (s : List ℕ) (child : ℕ → Reading Element) 
   unfolding restAt
   content-asked h =
       then-same _ _ (contentAt class s linkLimits (length s) child opened (start .from)) (λ c q. ap (λ (i : Inside). whole (record { begin = start .begin; from = start .from; to = c .to; end = c .end; mark = typeMark s start; inside = i })) (add-all s (c .inside)))
-      ∙ sym (then-then (contentAt class s linkLimits (length s) child opened (start .from)) (λ c. whole (element c)) (λ e. whole (seenOf s e)))
+      ∙ sym (then-then (contentAt class s linkLimits (length s) child opened (start .from)) (λ c. whole (filled opened c)) (λ e. whole (seenOf s e)))
       ∙ ap (seen s) (cond-false _ h)
-    where
-      element : Content → Element
-      element c = record { tag = record { begin = start .begin; name = nameOf start; from = start .from; to = c .to; end = c .end }; inside = c .inside }
 
   -- an empty-element tag is an element by itself
   pub emptied-is : start .empty ≡ true → whole (emptySeen s start) ≡ seen s (restAt class s linkLimits child opened)

@@ -50,8 +50,12 @@ module _ (s : List ℕ) where
 
 -- one more element behind those that are inside
 abbrev pub noted : Inside → Seen → Inside
-noted i child =
-    record { children = i .children + 1; first = cond (eqb (i .children) 0) (child .begin) (i .first); typed = cond (eqb (i .typed) 0) (child .mark) (i .typed); nested = cond (eqb (i .children) 0) (child .inside .typed) (i .nested) }
+noted i child = record {
+  children = i .children + 1;
+  first = cond (eqb (i .children) 0) (child .begin) (i .first);
+  typed = cond (eqb (i .typed) 0) (child .mark) (i .typed);
+  nested = cond (eqb (i .children) 0) (child .inside .typed) (i .nested);
+}
 
 -- ---- what the enums say
 

@@ -105,6 +105,7 @@ pub(crate) fn end_tag(
 {
     if repeats(s, b, e, at) {
         if bytes::is_at(s, at + (e - b), 62) {
+            // Any table may be lent: one that gives `>` the class of names or of white space would read on behind it.
             if bytes::class(table, 62) < 3 {
                 return Place::Whole(at + (e - b) + 1);
             }

@@ -17,13 +17,14 @@ use Rattle.message.specs.Reading.Reading.{whole, refused}
 use Rattle.message.specs.Limits.{Limits}
 use Rattle.message.specs.Elements.{Element, declaredOf, rootAt, documentAt}
 use Rattle.message.specs.Readable.{Readable, Continues, aComment, MarkupMayBegin}
+use Rattle.message.specs.Nine.{NineAt, dead as dead-there, unfinished}
 use Rattle.message.proofs.Automaton.{Ground, first, behind, State, ground, Next, dead, goes, step, rest, steps}
 use Rattle.message.proofs.Dues.{mayEnd, At}
 use Rattle.message.proofs.Going.{MarkedAt, Cause, dies, cut, deep, crowded, opens, longs, Outcome}
 use Rattle.message.proofs.GoingElements.{going-document}
 use Rattle.message.proofs.Raising.{document-rest}
 use Rattle.message.proofs.Endings.{finish, finishes}
-use Rattle.message.proofs.Ways.{steps-on, steps-dead, then-steps, steps-append, steps-at, goes-dead, goes-same}
+use Rattle.message.proofs.Ways.{steps-on, steps-dead, then-steps, steps-append, steps-at, at-within, goes-dead, goes-same}
 use Rattle.message.proofs.Openings.{opening-ends}
 use Rattle.message.proofs.Past.{at-first}
 use Rattle.message.proofs.Sound.{sane-at}
@@ -120,15 +121,22 @@ module _ (l : Limits) (s : List ℕ) (st : State) (p : ℕ) (here : At l s st p)
   unfolding steps
   goes-continues within next q = state-continues (take (p + 1) s) next (one-more within ∙ steps-on st (byteAt s p) [] q)
 
-  pub dead-continues : p < length s → step st (byteAt s p) ≡ dead → Continues (take (p + 1) s) → ⊥
+  dead-continues : p < length s → step st (byteAt s p) ≡ dead → Continues (take (p + 1) s) → ⊥
   dead-continues within q on =
       let x = continues-state (take (p + 1) s) on in goes-dead (sym (x .1) ∙ one-more within ∙ steps-dead st (byteAt s p) [] q)
 
-  pub cut-readable : length s ≤ p → mayEnd st ≡ false → Readable s → ⊥
+  cut-readable : length s ≤ p → mayEnd st ≡ false → Readable s → ⊥
   cut-readable out more readable =
       let last : st ≡ ground behind =
       goes-same (sym (ap (steps (ground first)) (sym (take-all p s out)) ∙ steps-at l s p st here) ∙ readable-ends s readable) in
       true≢false (sym (ap mayEnd last) ∙ more)
+
+  -- so both are what a 9 means
+  pub dead-nine : p < length s → step st (byteAt s p) ≡ dead → NineAt s p
+  dead-nine within dying = dead-there within at-continues (dead-continues within dying)
+
+  pub cut-nine : length s ≤ p → mayEnd st ≡ false → NineAt s p
+  cut-nine out more = unfinished (omega (arith, at-within l s p st here)) (subst Continues (take-all p s out) at-continues) (cut-readable out more)
 
 -- ---- where markup may begin
 

@@ -12,7 +12,8 @@ use Rattle.message.specs.Class.{classOf, isStart, isName}
 use Rattle.message.specs.Reading.{is, byteAt, has, ends}
 use Rattle.message.specs.Limits.{linkLimits}
 use Rattle.message.specs.Readable.{Continues, MarkupMayBegin, endTags, Open, PartStands}
-use Rattle.message.specs.Due.{Opening, Due, dead, unfinished, level, attribute, opening, long}
+use Rattle.message.specs.Nine.{dead, unfinished}
+use Rattle.message.specs.Due.{Opening, Due, nine, level, attribute, opening, long}
 use Rattle.message.proofs.Laws.{or-true}
 use Rattle.message.proofs.Automaton.{Ground, first, before, behind, inside, State, ground, inTag, goes, step, steps}
 use Rattle.message.proofs.Dues as dues
@@ -70,9 +71,9 @@ module _ (s : List ℕ) where
     undue st′ same h = true≢false (sym (ap (λ (x : State). due linkLimits s x p) same ∙ h) ∙ free)
 
     pub blocked : (n q : ℕ) → q ≡ p → Due s n q → ⊥
-    blocked n q same (dead q′ inner on off) =
+    blocked n q same (nine q′ (dead inner on off)) =
         off (subst (λ (i : ℕ). Continues (take (i + 1) s)) (sym same) (goes-continues linkLimits s st p here within next going))
-    blocked n q same (unfinished on off) = omega arith
+    blocked n q same (nine q′ (unfinished all on off)) = omega arith
     blocked n q same (level q′ open-there tag start) =
         let x = open-ground 32 p st here (subst (λ (i : ℕ). Open 32 (take i s)) same open-there) in
         undue (ground (x .0)) (x .1)

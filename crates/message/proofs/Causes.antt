@@ -5,14 +5,13 @@ use mathlib.Core.Bool.{Bool, true, false, not, _&&_}
 use mathlib.Core.List.{List, [], _∷_, _++_}
 use native.Mathlib.Omega.{arith}
 use lib.ListN.{length, take}
-use lib.Seq.{take-all}
 use lib.Dec.{leb}
 use borrow.Author.Tests.{ltb-true}
 use Rattle.message.specs.Class.{classOf, isStart, isName}
 use Rattle.message.specs.Reading.{is, byteAt, has, ends}
 use Rattle.message.specs.Limits.{linkLimits}
 use Rattle.message.specs.Readable.{Continues, endTags, Open, TagStands}
-use Rattle.message.specs.Due.{Due, dead, unfinished, level, attribute, opening, long}
+use Rattle.message.specs.Due.{Due, nine, level, attribute, opening, long}
 use Rattle.message.proofs.Laws.{has-lt, has-byte, both-second, ends-stop}
 use Rattle.message.proofs.Past.{at-start}
 use Rattle.message.proofs.Bytes.{other-than, start-no-space, slash-no-start, greater-no-start}
@@ -20,11 +19,11 @@ use Rattle.message.proofs.Automaton.{Ground, first, before, behind, ins
 use Rattle.message.proofs.Automaton as automaton
 use Rattle.message.proofs.Dues.{isBehind, depth, Here}
 use Rattle.message.proofs.Going.{Cause, dies, cut, deep, crowded, opens, longs}
-use Rattle.message.proofs.Accepted.{steps-from, ends-readable, at-continues, goes-continues, dead-continues, cut-readable, marked-may}
+use Rattle.message.proofs.Accepted.{steps-from, ends-readable, goes-continues, dead-nine, cut-nine, marked-may}
 use Rattle.message.proofs.Endings.{finishes}
 use Rattle.message.proofs.Sound.{sane-at}
 use Rattle.message.proofs.Spelling.{opening-stands}
-use Rattle.message.proofs.Ways.{steps-at, at-within}
+use Rattle.message.proofs.Ways.{steps-at}
 
 in-tag-goes : (n : List ℕ) (seen o : List (List ℕ)) (x : ℕ) → isStart classOf x ≡ true
     → step (inTag true n seen o) x ≡ goes (automaton.attribute false (x ∷ []) n seen o)
@@ -58,12 +57,8 @@ module _ (s : List ℕ) where
   -- ---- each cause
 
   pub cause-due : (st : State) (p n : ℕ) → Here s st p → Cause linkLimits s st p n → Due s n p
-  cause-due st p n here (dies within dying) =
-      dead p within (at-continues linkLimits s st p here) (dead-continues linkLimits s st p here within dying)
-  cause-due st p n here (cut out more) =
-      let all : length s ≡ p = omega (arith, at-within linkLimits s p st here) in
-      subst (Due s 9) all (unfinished (subst Continues (take-all p s out) (at-continues linkLimits s st p here))
-      (cut-readable linkLimits s st p here out more))
+  cause-due st p n here (dies within dying) = nine p (dead-nine linkLimits s st p here within dying)
+  cause-due st p n here (cut out more) = nine p (cut-nine linkLimits s st p here out more)
   cause-due st p n here (deep g q tag far levels) =
       level p (ground-open g p (subst (λ (x : State). Here s x p) q here) levels) tag
       (both-second (leb 32 (depth g) && not (isBehind g)) (has (isStart classOf) s (p + 1)) far)

@@ -34,7 +34,14 @@ module _ (b : ℕ) where
             (sym h ∙ hex-none (between-below 48 57 b k) (between-below 65 70 b (omega arith)) (between-below 97 102 b (omega arith))))
       ]
 
-  -- no hexadecimal digit stands between the capitals and the small letters
+  -- no hexadecimal digit stands between the figures and the capitals, nor between these and the small letters
+  pub hex-capital : hexDigit b ≡ true → 57 < b → 65 ≤ b
+  hex-capital h above =
+      elim (decLt b 65) [
+        | no k ↦ omega arith
+        | yes k ↦ absurd (true≢false (sym h ∙ hex-none (between-above 48 57 b above) (between-below 65 70 b k) (between-below 97 102 b (omega arith))))
+      ]
+
   pub hex-small : hexDigit b ≡ true → 70 < b → 97 ≤ b
   hex-small h above =
       elim (decLt b 97) [

@@ -17,7 +17,8 @@ use Rattle.message.specs.Limits.{linkLimits}
 use Rattle.message.specs.Elements.{Element, documentAt}
 use Rattle.message.specs.Messages.{messageAt}
 use Rattle.message.specs.Readable.{Readable, Continues, PartStands}
-use Rattle.message.specs.Due.{Opening, doctype, cdata, instruction, Due, dead, unfinished, level, attribute, opening, long}
+use Rattle.message.specs.Nine.{dead, unfinished}
+use Rattle.message.specs.Due.{Opening, doctype, cdata, instruction, Due, nine, level, attribute, opening, long}
 use Rattle.message.specs.Places.{PlaceOfTen, PlaceOfEleven, PlaceOfTwelve, PlaceOfFourteen}
 use Rattle.message.specs.Earliest.{rank, FirstDue, NoneDue, answer, Answered, EarliestWins}
 use Rattle.message.specs.declared.Message.{Message}
@@ -50,8 +51,8 @@ module _ (s : List ℕ) where
   opening-within p (instruction h other) = has-lt (is 60) s p (spelled-first s 60 (codes "?") p h)
 
   due-within : (n p : ℕ) → Due s n p → (p < length s) ⊎ ((p ≡ length s) × (Readable s → ⊥))
-  due-within n p (dead q within on off) = inl within
-  due-within n p (unfinished on off) = inr (refl, off)
+  due-within n p (nine q (dead within on off)) = inl within
+  due-within n p (nine q (unfinished all on off)) = inr (all, off)
   due-within n p (level q open-there tag start) = inl (has-lt (is 60) s q tag)
   due-within n p (attribute at to marked stands space start) = inl (has-lt (isStart classOf) s (blanks classOf s to) start)
   due-within n p (opening q marked open-there) = inl (opening-within q open-there)
@@ -69,19 +70,18 @@ module _ (s : List ℕ) where
   below : (k r : ℕ) → (k < r → ⊥) → r ≤ k
   below k r h = elim (decLt k r) [ yes less ↦ absurd (h less) | no more ↦ omega arith ]
 
-  module _ (r p : ℕ) (most : r ≤ 4) (nine : 0 < r → Due s 9 p → ⊥) (eleven : 1 < r → Due s 11 p → ⊥) (fourteen : 2 < r → Due s 14 p → ⊥) (ten : 3 < r → Due s 10 p → ⊥) where
+  module _ (r p : ℕ) (most : r ≤ 4) (no-9 : 0 < r → Due s 9 p → ⊥) (no-11 : 1 < r → Due s 11 p → ⊥) (no-14 : 2 < r → Due s 14 p → ⊥) (no-10 : 3 < r → Due s 10 p → ⊥) where
     ranked : (n q : ℕ) → q ≡ p → Due s n q → r ≤ rank n
-    ranked n q same (dead q′ within on off) = below 0 r (λ h. nine h (subst (Due s 9) same (dead q′ within on off)))
-    ranked n q same (unfinished on off) = below 0 r (λ h. nine h (subst (Due s 9) same (unfinished on off)))
-    ranked n q same (level q′ open-there tag start) = below 3 r (λ h. ten h (subst (Due s 10) same (level q′ open-there tag start)))
+    ranked n q same (nine q′ at) = below 0 r (λ h. no-9 h (subst (Due s 9) same (nine q′ at)))
+    ranked n q same (level q′ open-there tag start) = below 3 r (λ h. no-10 h (subst (Due s 10) same (level q′ open-there tag start)))
     ranked n q same (attribute at to marked stands space start) =
-        below 1 r (λ h. eleven h (subst (Due s 11) same (attribute at to marked stands space start)))
+        below 1 r (λ h. no-11 h (subst (Due s 11) same (attribute at to marked stands space start)))
     ranked n q same (opening q′ marked open-there) = most
-    ranked n q same (long at q′ marked stands far) = below 2 r (λ h. fourteen h (subst (Due s 14) same (long at q′ marked stands far)))
+    ranked n q same (long at q′ marked stands far) = below 2 r (λ h. no-14 h (subst (Due s 14) same (long at q′ marked stands far)))
 
   no-nine : (p n q : ℕ) → n ≡ 9 → q ≡ p → p < length s → Continues (take (p + 1) s) → Due s n q → ⊥
-  no-nine p n q number same within on (dead q′ inner before off) = off (subst (λ (i : ℕ). Continues (take (i + 1) s)) (sym same) on)
-  no-nine p n q number same within on (unfinished before off) = omega arith
+  no-nine p n q number same within on (nine q′ (dead inner before off)) = off (subst (λ (i : ℕ). Continues (take (i + 1) s)) (sym same) on)
+  no-nine p n q number same within on (nine q′ (unfinished all before off)) = omega arith
   no-nine p n q number same within on (level q′ open-there tag start) = omega arith
   no-nine p n q number same within on (attribute at to marked stands space start) = omega arith
   no-nine p n q number same within on (opening q′ marked open-there) = omega arith
@@ -89,8 +89,7 @@ module _ (s : List ℕ) where
 
   eleven-state : (p : ℕ) (st : State) → Here s st p → (n q : ℕ) → n ≡ 11 → q ≡ p → Due s n q
       → (m : List ℕ) × (seen : List (List ℕ)) × (o : List (List ℕ)) × (st ≡ inTag true m seen o) × (length seen ≡ 16)
-  eleven-state p st here n q number same (dead q′ inner before off) = absurd (omega arith)
-  eleven-state p st here n q number same (unfinished before off) = absurd (omega arith)
+  eleven-state p st here n q number same (nine q′ at) = absurd (omega arith)
   eleven-state p st here n q number same (level q′ open-there tag start) = absurd (omega arith)
   eleven-state p st here n q number same (attribute at to marked stands space start) =
       tag-inverse linkLimits s p st here at 16 to marked stands space (sym same)
@@ -98,8 +97,7 @@ module _ (s : List ℕ) where
   eleven-state p st here n q number same (long at q′ marked stands far) = absurd (omega arith)
 
   fourteen-state : (p : ℕ) (st : State) → Here s st p → (n q : ℕ) → n ≡ 14 → q ≡ p → Due s n q → (g : Ground) → st ≡ ground g → ⊥
-  fourteen-state p st here n q number same (dead q′ inner before off) = absurd (omega arith)
-  fourteen-state p st here n q number same (unfinished before off) = absurd (omega arith)
+  fourteen-state p st here n q number same (nine q′ at) = absurd (omega arith)
   fourteen-state p st here n q number same (level q′ open-there tag start) = absurd (omega arith)
   fourteen-state p st here n q number same (attribute at to marked stands space start) = absurd (omega arith)
   fourteen-state p st here n q number same (opening q′ marked open-there) = absurd (omega arith)
@@ -109,8 +107,7 @@ module _ (s : List ℕ) where
       (lt-ltb 64 (ends (isName classOf) s p - p) far-there) .0
 
   ten-start : (p n q : ℕ) → n ≡ 10 → q ≡ p → Due s n q → has (isStart classOf) s (p + 1) ≡ true
-  ten-start p n q number same (dead q′ inner before off) = absurd (omega arith)
-  ten-start p n q number same (unfinished before off) = absurd (omega arith)
+  ten-start p n q number same (nine q′ at) = absurd (omega arith)
   ten-start p n q number same (level q′ open-there tag start) = subst (λ (i : ℕ). has (isStart classOf) s (i + 1) ≡ true) same start
   ten-start p n q number same (attribute at to marked stands space start) = absurd (omega arith)
   ten-start p n q number same (opening q′ marked open-there) = absurd (omega arith)
@@ -170,8 +167,7 @@ module _ (s : List ℕ) where
   read-root m q = let x = then-whole _ (documentAt classOf s linkLimits 0) m q in (x .0, x .1)
 
   ranked-back : (n p : ℕ) → Due s n p → unrank (rank n) ≡ n
-  ranked-back n p (dead q within on off) = refl
-  ranked-back n p (unfinished on off) = refl
+  ranked-back n p (nine q at) = refl
   ranked-back n p (level q open-there tag start) = refl
   ranked-back n p (attribute at to marked stands space start) = refl
   ranked-back n p (opening q marked open-there) = refl

@@ -16,7 +16,7 @@ use Rattle.message.specs.Reading.Reading.{whole, refused}
 use Rattle.message.specs.Names.{Named, nameAt}
 use Rattle.message.proofs.Laws.{one-has}
 use Rattle.message.specs.Limits.{Limits}
-use Rattle.message.specs.Elements.{Elements, Element, Start, Content, startEndAt, attributesAt, withNameAt, startAt, freeAt, endTagAt, contentAt, restAt, tooDeepAt, elementAt, endAt, declaredOf, rootAt, documentAt}
+use Rattle.message.specs.Elements.{Elements, Element, Start, Content, closed, nested, unfilled, filled, startEndAt, attributesAt, withNameAt, startAt, freeAt, endTagAt, contentAt, restAt, tooDeepAt, elementAt, endAt, declaredOf, rootAt, documentAt}
 use Rattle.message.specs.Elements.Elements.{none, more}
 use Rattle.message.proofs.Trees.{whole-same, unread}
 
@@ -102,12 +102,6 @@ module _ (class : ℕ → ℕ) (s : List ℕ) (l : Limits) where
   -- ---- an element behind its start tag
 
   module _ (child : ℕ → Reading Element) (st : Start) where
-    abbrev closed : ℕ → ℕ → Content
-    closed stop e = record { inside = none; to = stop; end = e }
-
-    abbrev nested : Element → Content → Content
-    nested e c = record { inside = more (e .tag) (e .inside) (c .inside); to = c .to; end = c .end }
-
     -- content that was read has what its end has, and each element before it keeps
     pub content-every : (P : ℕ → Content → Type 0)
         → ((at stop e : ℕ) → freeAt class s (length s) at ≡ whole stop → has (is 47) s (stop + 1) ≡ true
@@ -134,24 +128,18 @@ module _ (class : ℕ → ℕ) (s : List ℕ) (l : Limits) where
             let y = then-whole (λ rest. whole (nested (x .0) rest)) (contentAt class s l fuel child st (x .0 .tag .end)) c (x .2) in
             subst (P at) (whole-same (y .2)) (keeps at stop (x .0) (y .0) f (x .1) (further (x .0 .tag .end) (y .0) (y .1)))
 
-    abbrev emptied : Element
-    emptied = record { tag = record { begin = st .begin; name = st .name; from = 0; to = 0; end = st .from }; inside = none }
-
-    abbrev filled : Content → Element
-    filled c = record { tag = record { begin = st .begin; name = st .name; from = st .from; to = c .to; end = c .end }; inside = c .inside }
-
     -- it has content, or none at all
-    pub rest-cases : (P : Element → Type 0) → (st .empty ≡ true → P emptied)
-        → (st .empty ≡ false → (c : Content) → contentAt class s l (length s) child st (st .from) ≡ whole c → P (filled c))
+    pub rest-cases : (P : Element → Type 0) → (st .empty ≡ true → P (unfilled st))
+        → (st .empty ≡ false → (c : Content) → contentAt class s l (length s) child st (st .from) ≡ whole c → P (filled st c))
         → (e : Element) → restAt class s l child st ≡ whole e → P e
     unfolding restAt
     rest-cases P f g e q = go (st .empty) refl q
       where
         go : (t : Bool) → st .empty ≡ t
-            → cond t (whole emptied) (contentAt class s l (length s) child st (st .from) >>= (λ c. whole (filled c))) ≡ whole e → P e
+            → cond t (whole (unfilled st)) (contentAt class s l (length s) child st (st .from) >>= (λ c. whole (filled st c))) ≡ whole e → P e
         go true t h = subst P (whole-same h) (f t)
         go false t h =
-            let x = then-whole (λ c. whole (filled c)) (contentAt class s l (length s) child st (st .from)) e h in
+            let x = then-whole (λ c. whole (filled st c)) (contentAt class s l (length s) child st (st .from)) e h in
             subst P (whole-same (x .2)) (g t (x .0) (x .1))
 
   -- ---- an element

@@ -14,8 +14,7 @@ use Rattle.message.specs.Reading.Reading.{whole, refused}
 use Rattle.message.specs.Text.{textAt}
 use Rattle.message.specs.Markup.{bangAt, aroundAt, declares, declarationAt}
 use Rattle.message.specs.Limits.{Limits}
-use Rattle.message.specs.Elements.{part, Element, Start, Content, freeAt, startAt, endTagAt, contentAt, restAt, elementAt, endAt, declaredOf, rootAt, documentAt}
-use Rattle.message.specs.Elements.Elements.{none}
+use Rattle.message.specs.Elements.{part, Element, Start, Content, unfilled, filled, freeAt, startAt, endTagAt, contentAt, restAt, elementAt, endAt, declaredOf, rootAt, documentAt}
 use Rattle.message.specs.Readable.{of-end}
 use Rattle.message.proofs.Laws.{cond-cases, has-lt, has-byte, fails-byte}
 use Rattle.message.proofs.Runs.{has-known}
@@ -131,13 +130,6 @@ module _ (l : Limits) (s : List ℕ) where
   unfolding restAt
   going-rest d child g i deep-enough st q started = go (st .empty) refl
     where
-      emptied : Element
-      emptied = record { tag = record { begin = st .begin; name = st .name; from = 0; to = 0; end = st .from }; inside = none }
-
-      filled : Content → Element
-      filled c =
-          record { tag = record { begin = st .begin; name = st .name; from = st .from; to = c .to; end = c .end }; inside = c .inside }
-
       content : Reading Content
       content = contentAt classOf s l (length s) (elementAt classOf s l d) st (st .from)
 
@@ -150,7 +142,7 @@ module _ (l : Limits) (s : List ℕ) where
           (started .filled h)
 
       go : (t : Bool) → st .empty ≡ t
-          → Outcome l s (λ e. At l s (after (names g)) (e .tag .end)) (cond t (whole emptied) (content >>= (λ c. whole (filled c))))
+          → Outcome l s (λ e. At l s (after (names g)) (e .tag .end)) (cond t (whole (unfilled st)) (content >>= (λ c. whole (filled st c))))
       go true h = started .emptied h
       go false h =
           outcome-then l s _ _ _ content

@@ -9,9 +9,9 @@ use Rattle.message.specs.Text.{specialAt, bracketAt, beyondPlainInAt, be
 use Rattle.message.specs.Markup.{utf8At, bangAt, aroundAt, encodingAt, declarationAt}
 use Rattle.message.specs.Elements.{startEndAt, endAt, quotedAt, freeAt, tooDeepAt, declaredOf, freshAt, attributesAt, withNameAt}
 use Rattle.message.specs.Elements.{startAt, endPartAt, endNameAt, endTagAt, contentAt, restAt, elementAt, rootAt, documentAt}
-use Rattle.message.specs.Values.{letterAt, attributeLetterAt, attributeMeaning, decimalFrom, decimalOf}
+use Rattle.message.specs.Values.{letterAt, attributeLetterAt, textLetterAt, attributeMeaning, contentMeaning, decimalFrom, decimalOf}
 use Rattle.message.specs.Messages.{kindOf, attributeCalled, messageAt}
-use Rattle.message.specs.Examples.{MessagesAtWork}
+use Rattle.message.specs.ExamplesOfMessages.{MessagesAtWork}
 
 pub messages-at-work : MessagesAtWork
 unfolding sameBytes
@@ -22,6 +22,6 @@ unfolding sameBytes
     specialAt bracketAt beyondPlainInAt beyondPlainAt beyondNoteAt textAt valueAt commentAt
     utf8At bangAt aroundAt encodingAt declarationAt
     startEndAt endAt quotedAt freeAt tooDeepAt declaredOf freshAt attributesAt withNameAt startAt endPartAt endNameAt endTagAt contentAt restAt elementAt rootAt documentAt
-    letterAt attributeLetterAt attributeMeaning decimalFrom decimalOf
+    letterAt attributeLetterAt textLetterAt attributeMeaning contentMeaning decimalFrom decimalOf
     kindOf attributeCalled messageAt
 messages-at-work = refl

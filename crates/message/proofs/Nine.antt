@@ -6,7 +6,7 @@ use mathlib.Core.List.{List, _++_, append-assoc}
 use native.Mathlib.Decide.{decLt}
 use native.Mathlib.Omega.{arith}
 use lib.ListN.{length, take, drop}
-use lib.Seq.{take-all, take-add, take-length}
+use lib.Seq.{take-add, take-length}
 use lib.Dec.{ltb, eqb}
 use borrow.Author.Tests.{ltb-false}
 use Rattle.message.specs.Class.{classOf}
@@ -20,8 +20,7 @@ use Rattle.message.proofs.Automaton.{State, ground, behind}
 use Rattle.message.proofs.Dues.{At}
 use Rattle.message.proofs.Going.{Cause, dies, cut, deep, crowded, opens, longs, Stuck, Outcome}
 use Rattle.message.proofs.GoingElements.{going-document}
-use Rattle.message.proofs.Accepted.{at-continues, dead-continues, cut-readable}
-use Rattle.message.proofs.Ways.{at-within}
+use Rattle.message.proofs.Accepted.{dead-nine, cut-nine}
 use Rattle.message.proofs.ByKind.{of-document, of-kind, Refusal, message-refusal}
 
 -- a refusal of the document, but for 8, with its cause
@@ -41,10 +40,8 @@ stuck-nine : (l : Limits) (s : List ℕ) (p : ℕ) → Stuck l s 9 p → NineAt 
 stuck-nine l s p stuck = go (stuck .0) 9 refl (stuck .1) (stuck .2)
   where
     go : (st : State) (n : ℕ) → n ≡ 9 → At l s st p → Cause l s st p n → NineAt s p
-    go st n nine here (dies within dying) = dead within (at-continues l s st p here) (dead-continues l s st p here within dying)
-    go st n nine here (cut out more) =
-        unfinished (omega (arith, at-within l s p st here)) (subst Continues (take-all p s out) (at-continues l s st p here))
-        (cut-readable l s st p here out more)
+    go st n nine here (dies within dying) = dead-nine l s st p here within dying
+    go st n nine here (cut out more) = cut-nine l s st p here out more
     go st n nine here (deep g q tag far levels) = absurd (omega arith)
     go st n nine here (crowded m seen o q start many crowd) = absurd (omega arith)
     go st n nine here (opens g q tag opening) = absurd (omega arith)

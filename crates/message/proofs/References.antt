@@ -1,4 +1,4 @@
--- What references are read as: the five names, and numbers in decimal and in hexadecimal. Assumes nothing.
+-- Every reference is read: the five names, and numbers in decimal and in hexadecimal. Assumes nothing.
 use Prim.Native.Nat.{ℕ, suc, _+_, _-_, _*_, _<_, _≤_}
 use mathlib.Core.Path.{_≡_, refl, sym, _∙_, ap}
 use mathlib.Core.Bool.{true, false, cond}
@@ -13,9 +13,10 @@ use Rattle.message.specs.Characters.{Character, legal, digitOf, isDigit,
 use Rattle.message.specs.Text.{specialAt}
 use Rattle.message.specs.Words.{codes}
 use Rattle.message.specs.Readable.{Spelled}
-use Rattle.message.specs.Meanings.{Digit, Digits, ReferencesMean}
+use Rattle.message.specs.Meanings.{Digit, Digits, Reference}
 use Rattle.message.specs.Meanings.Digit.{figure, capital, small}
 use Rattle.message.specs.Meanings.Digits.{first, further}
+use Rattle.message.specs.Meanings.Reference.{less, greater, ampersand, apostrophe, quotation, decimal, hexadecimal}
 use Rattle.message.proofs.Laws.{and-true, has-lt, one-yes}
 use Rattle.message.proofs.Digits.{hex-some}
 use Rattle.message.proofs.Runs.{has-known, byte-is}
@@ -227,13 +228,11 @@ module _ (s : List ℕ) where
         ∙ numbered 16 (omega arith) (λ m. omega arith) digits fine (at + 1 + 2) e (ap (wordAt tail s) (sym on) ∙ z .1)
         ∙ ap (λ (p : ℕ). character p n) (omega arith)
 
-pub references-mean : ReferencesMean
-references-mean s at = record {
-  less = by-name s at 108 (codes "t;") 60 refl (less-name s);
-  greater = by-name s at 103 (codes "t;") 62 refl (greater-name s);
-  ampersand = by-name s at 97 (codes "mp;") 38 refl (ampersand-name s);
-  apostrophe = by-name s at 97 (codes "pos;") 39 refl (apostrophe-name s);
-  quotation = by-name s at 113 (codes "uot;") 34 refl (quotation-name s);
-  decimal = by-decimal s at;
-  hexadecimal = by-hexadecimal s at;
-}
+    pub reference-read : {c : Character} → Reference s at c → specialAt s at ≡ whole c
+    reference-read (less h) = by-name 108 (codes "t;") 60 refl less-name h
+    reference-read (greater h) = by-name 103 (codes "t;") 62 refl greater-name h
+    reference-read (ampersand h) = by-name 97 (codes "mp;") 38 refl ampersand-name h
+    reference-read (apostrophe h) = by-name 97 (codes "pos;") 39 refl apostrophe-name h
+    reference-read (quotation h) = by-name 113 (codes "uot;") 34 refl quotation-name h
+    reference-read (decimal n word digits fine h) = by-decimal n word digits fine h
+    reference-read (hexadecimal n word digits fine h) = by-hexadecimal n word digits fine h

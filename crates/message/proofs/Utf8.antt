@@ -1,6 +1,6 @@
 -- Proves what specs/Alphabet says of the characters of more than one byte. Assumes nothing.
 use Prim.Native.Nat.{ℕ, _+_, _-_, _*_, _<_, _≤_}
-use mathlib.Core.Path.{_≡_, refl, sym, _∙_, ap, subst}
+use mathlib.Core.Path.{_≡_, refl, sym, _∙_, subst}
 use mathlib.Core.Bool.{Bool, true, cond, _&&_}
 use mathlib.Core.List.{List, [], _∷_}
 use native.Mathlib.Omega.{arith}
@@ -16,7 +16,7 @@ use Rattle.message.specs.Alphabet.{Utf8, CharactersAre}
 use Rattle.message.specs.Alphabet.Utf8.{two, three, four}
 use Rattle.message.proofs.Laws.{cond-cases, has-in, has-lt, one-yes, between-yes, between-above, has-between, one-between}
 use Rattle.message.proofs.Runs.{byte-is}
-use Rattle.message.proofs.Words.{word-first}
+use Rattle.message.proofs.Words.{word-first, word-before}
 use Rattle.message.proofs.Spelling.{word-spelled, spelled-word}
 use Rattle.message.proofs.Legal.{legal-low, legal-over, legal-small}
 use Rattle.message.proofs.Progress.{Every, every-on}
@@ -41,9 +41,7 @@ module _ (s : List ℕ) where
   -- a word stands if its first byte does and the others do behind it
   word-on : (x : ℕ) (w : List ℕ) (p next e : ℕ) → p < length s → byteAt s p ≡ x → next ≡ p + 1 → wordAt w s next ≡ whole e
       → wordAt (x ∷ w) s p ≡ whole e
-  unfolding wordAt
-  word-on x w p next e inside same on q =
-      rw (passes (is x) p inside (eq-eqb (byteAt s p) x same)) (ap (wordAt w s) (sym on) ∙ q)
+  word-on x w p next e inside same = word-before s x w p next e (has-in (is x) s p inside ∙ eq-eqb (byteAt s p) x same)
 
   word-over : (e : ℕ) → wordAt [] s e ≡ whole e
   unfolding wordAt

@@ -46,7 +46,8 @@ pub data Utf8 : ℕ → List ℕ → Type 0 where
 
 -- What is read as one character is a legal one with its bytes, and every legal one is read.
 pub record CharacterExactly (s : List ℕ) (at : ℕ) : Type 0 where
-  pub read : (c : Character) → longAt s at ≡ whole c → (word : List ℕ) × Utf8 (c .code) word × (legal (c .code) ≡ true) × Spelled word s at × (c .end ≡ at + length word)
+  pub read : (c : Character) → longAt s at ≡ whole c
+      → (word : List ℕ) × Utf8 (c .code) word × (legal (c .code) ≡ true) × Spelled word s at × (c .end ≡ at + length word)
   pub reads : (n : ℕ) (word : List ℕ) → Utf8 n word → legal n ≡ true → Spelled word s at → longAt s at ≡ whole (record { end = at + length word; code = n })
 
 abbrev pub CharactersAre : Type 0

@@ -78,8 +78,7 @@ digitOf x = cond (leb x 57) (x - 48) (cond (leb x 70) (x - 55) (x - 87))
 abbrev pub isDigit : ℕ → ℕ → Bool
 isDigit base x = hexDigit x && ltb (digitOf x) base
 
--- The digits from the place on, after others that make the number n: a digit that passes the last character of all is dead. The fuel, where a reader has
--- one, is the message's length or one more where it is called, and each step goes on by a byte at least: so it is never used up.
+-- the digits from the place on, after others that make the number n: a digit that passes the last character of all is dead
 unfoldable pub digitsAt : ℕ → ℕ → ℕ → List ℕ → ℕ → Reading Character
 digitsAt zero base n s at = refused 9 at
 digitsAt (suc fuel) base n s at =
@@ -109,7 +108,9 @@ standsAt word c s at = do
 -- after `&`: `lt;`, `gt;`, `quot;`, `amp;` or `apos;`
 unfoldable pub predefinedAt : List ℕ → ℕ → Reading Character
 predefinedAt s at =
-    let amp-or-apos = one (is 97) s at >>= (λ i. cond (has (is 109) s i) (standsAt (109 ∷ 112 ∷ 59 ∷ []) 38 s i) (standsAt (112 ∷ 111 ∷ 115 ∷ 59 ∷ []) 39 s i)) in
+    let amp = standsAt (109 ∷ 112 ∷ 59 ∷ []) 38 s in
+    let apos = standsAt (112 ∷ 111 ∷ 115 ∷ 59 ∷ []) 39 s in
+    let amp-or-apos = one (is 97) s at >>= (λ i. cond (has (is 109) s i) (amp i) (apos i)) in
     cond (has (is 108) s at) (standsAt (108 ∷ 116 ∷ 59 ∷ []) 60 s at)
     (cond (has (is 103) s at) (standsAt (103 ∷ 116 ∷ 59 ∷ []) 62 s at)
     (cond (has (is 113) s at) (standsAt (113 ∷ 117 ∷ 111 ∷ 116 ∷ 59 ∷ []) 34 s at) amp-or-apos))

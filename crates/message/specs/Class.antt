@@ -20,7 +20,7 @@ nameOnly x = between 48 57 x || (eqb x 45 || eqb x 46)
 abbrev pub whiteSpace : ℕ → Bool
 whiteSpace x = eqb x 9 || (eqb x 10 || (eqb x 13 || eqb x 32))
 
--- what is a character of text by itself, beside the above: no control byte, no byte of a longer character, neither `<` nor `&`
+-- what is a character of text by itself, beside the above: U+0021 to U+007F, but neither `<` nor `&`
 abbrev pub legalText : ℕ → Bool
 legalText x = between 33 127 x && (not (eqb x 60) && not (eqb x 38))
 

@@ -3,11 +3,12 @@ use Prim.Native.Nat.{ℕ, _+_, _-_, _<_}
 use mathlib.Core.Path.{_≡_}
 use mathlib.Core.Bool.{true}
 use mathlib.Core.List.{List}
-use lib.ListN.{length, take}
+use lib.ListN.{take}
 use Rattle.message.specs.Class.{classOf, isStart, isName, isSpace}
 use Rattle.message.specs.Reading.{is, has, ends, blanks}
 use Rattle.message.specs.Words.{codes}
-use Rattle.message.specs.Readable.{Readable, Continues, MarkupMayBegin, Spelled, Open, TagStands, PartStands}
+use Rattle.message.specs.Readable.{MarkupMayBegin, Spelled, Open, TagStands, PartStands}
+use Rattle.message.specs.Nine.{NineAt}
 
 -- the message begins with `<?xml` and white space
 abbrev pub Declares : List ℕ → Type 0
@@ -22,8 +23,7 @@ pub data Opening (s : List ℕ) (p : ℕ) : Type 0 where
 -- which refusal is due, and where
 pub data Due (s : List ℕ) : ℕ → ℕ → Type 0 where
   -- the first byte that leaves no readable continuation; or the length, of a message that only ends too soon
-  dead : (p : ℕ) → p < length s → Continues (take p s) → (Continues (take (p + 1) s) → ⊥) → Due s 9 p
-  unfinished : Continues s → (Readable s → ⊥) → Due s 9 (length s)
+  nine : (p : ℕ) → NineAt s p → Due s 9 p
   -- the `<` of an element, before a byte that begins a name, where 32 elements are open
   level : (p : ℕ) → Open 32 (take p s) → has (is 60) s p ≡ true → has (isStart classOf) s (p + 1) ≡ true → Due s 10 p
   -- a byte that begins a name, behind a start tag's name, 16 attributes and white space

@@ -1,5 +1,5 @@
--- Promise 4, the earliest place wins: the answer is the first refusal that is due; at one place 9 goes first, then 11, then 14; 8 before all else, 13 after all else.
--- (proofs/Earliest) Assumes nothing.
+-- Promise 4, the earliest place wins: the answer is the first refusal that is due; at one place 9 goes first, then 11, then 14; 8 before all else, 13 after all
+-- else. (proofs/Earliest) Assumes nothing.
 use Prim.Native.Nat.{ℕ, _<_, _≤_}
 use mathlib.Core.Path.{_≡_}
 use mathlib.Core.Logic.{_⊎_}

@@ -1,6 +1,5 @@
 -- Document 01, "The restricted XML": start tags with their attributes, end tags, elements in elements, and what stands around the root. The readers of
--- the other files are put together in the order in which the bytes come. The fuel of a reader, where it has one, is never used up.
--- Assumes nothing.
+-- the other files are put together in the order in which the bytes come. Assumes nothing.
 use Prim.Native.Nat.{ℕ, zero, suc, _+_, _-_}
 use mathlib.Core.Bool.{Bool, true, false, cond, _||_}
 use mathlib.Core.List.{List, [], _∷_}
@@ -51,6 +50,20 @@ pub record Content : Type 0 where
   pub inside : Elements
   pub to : ℕ
   pub end : ℕ
+
+-- content that its end tag ends at once, and content that begins with an element
+abbrev pub closed : ℕ → ℕ → Content
+closed to end = record { inside = none; to = to; end = end }
+
+abbrev pub nested : Element → Content → Content
+nested e c = record { inside = more (e .tag) (e .inside) (c .inside); to = c .to; end = c .end }
+
+-- an empty-element tag, and a start tag with its content
+abbrev pub unfilled : Start → Element
+unfilled start = record { tag = record { begin = start .begin; name = start .name; from = 0; to = 0; end = start .from }; inside = none }
+
+abbrev pub filled : Start → Content → Element
+filled start c = record { tag = record { begin = start .begin; name = start .name; from = start .from; to = c .to; end = c .end }; inside = c .inside }
 
 -- ---- attributes
 
@@ -163,15 +176,15 @@ module _ (class : ℕ → ℕ) (s : List ℕ) where
     contentAt zero child start at = refused 9 at
     contentAt (suc fuel) child start at = do
       stop ← freeAt (length s) at
-      let closed : Reading Content = endTagAt (start .begin) (start .name) (stop + 2) >>= (λ e. whole (record { inside = none; to = stop; end = e })) in
-          let nested : Reading Content = child stop >>= (λ e. contentAt fuel child start (e .tag .end) >>= (λ c. whole (record { inside = more (e .tag) (e .inside) (c .inside); to = c .to; end = c .end }))) in
-          cond (has (is 47) s (stop + 1)) closed nested
+      let last : Reading Content = endTagAt (start .begin) (start .name) (stop + 2) >>= (λ e. whole (closed stop e)) in
+          let further : Reading Content = child stop >>= (λ e. contentAt fuel child start (e .tag .end) >>= (λ c. whole (nested e c))) in
+          cond (has (is 47) s (stop + 1)) last further
 
     -- an element behind its start tag
     unfoldable pub restAt : (ℕ → Reading Element) → Start → Reading Element
     restAt child start =
-        let filled : Reading Element = contentAt (length s) child start (start .from) >>= (λ c. whole (record { tag = record { begin = start .begin; name = start .name; from = start .from; to = c .to; end = c .end }; inside = c .inside })) in
-        cond (start .empty) (whole (record { tag = record { begin = start .begin; name = start .name; from = 0; to = 0; end = start .from }; inside = none })) filled
+        let read : Reading Element = contentAt (length s) child start (start .from) >>= (λ c. whole (filled start c)) in
+        cond (start .empty) (whole (unfilled start)) read
 
     -- an element, of at most as many levels as `depth` says
     unfoldable pub elementAt : ℕ → ℕ → Reading Element

@@ -1,23 +1,14 @@
--- Promise 9, the definitions at work: which messages are XML, where the others are refused, and what is read of some. The other promises speak of readable
--- messages and of places in them; these say which are readable. (proofs/DeclarationsAtWork, MarkupAtWork, TagsAtWork, CharactersAtWork, LimitsAtWork,
--- MessagesAtWork, NumbersForC) Assumes nothing.
+-- Promise 9, the definitions at work: which messages are XML, and where the others are refused. The other promises speak of readable messages and of places
+-- in them; these say which are readable. (proofs/DeclarationsAtWork, MarkupAtWork, TagsAtWork, CharactersAtWork, LimitsAtWork) Assumes nothing.
 use Prim.Native.Nat.{ℕ, zero, suc}
 use mathlib.Core.Path.{_≡_}
-use mathlib.Core.Bool.{true}
 use mathlib.Core.List.{List, [], _∷_, _++_, map}
 use Rattle.message.specs.Class.{classOf}
 use Rattle.message.specs.Reading.{Reading}
-use Rattle.message.specs.Reading.Reading.{whole, refused}
+use Rattle.message.specs.Reading.Reading.{refused}
 use Rattle.message.specs.Limits.{linkLimits}
 use Rattle.message.specs.Words.{codes}
-use Rattle.message.specs.Messages.{kindNumber, noStatus, noNumber, noType, message, messageOf}
-use Rattle.message.specs.Values.{numberFlag, numberNamed, statusNumber, adviceNumber}
-use Rattle.message.specs.declared.Kind.the-variants as kinds
-use Rattle.message.specs.declared.Number.{Number}
-use Rattle.message.specs.declared.Number.the-variants.{Nothing, Names}
-use Rattle.message.specs.declared.Status.the-variants as statuses
-use Rattle.message.specs.declared.Advice.the-variants as advices
-use Rattle.message.specs.declared.NumberValue.{NumberValue}
+use Rattle.message.specs.Messages.{messageOf}
 use Rattle.message.specs.declared.Message.{Message}
 
 -- a message, with its answer
@@ -34,13 +25,6 @@ formed bytes = record { bytes = bytes; due = refused 13 0 }
 
 abbrev pub stops : ℕ → ℕ → List ℕ → Example
 stops number place bytes = record { bytes = bytes; due = refused number place }
-
--- an Ok whose inResponseTo stands at the place, with its length
-abbrev pub valueAt : ℕ → ℕ → Number → NumberValue
-valueAt place length number = record { there = true; place = place; length = length; number = number }
-
-abbrev pub okAt : ℕ → ℕ → Number → List ℕ → Example
-okAt place length number bytes = record { bytes = bytes; due = whole (message kinds.Ok noStatus noNumber (valueAt place length number) noNumber noType) }
 
 abbrev pub times : ℕ → List ℕ → List ℕ
 times zero word = []
@@ -270,29 +254,3 @@ LimitsAtWork =
     ∷ stops 9 5 (codes "<m></" ++ times 65 (codes "n"))
     ∷ stops 14 6 (codes "<nn></n1" ++ times 63 (codes "n"))
     ∷ [])
-
-abbrev pub MessagesAtWork : Type 0
-MessagesAtWork =
-    AllAsDue
-    ( -- the listing's two items
-    okAt 18 1 (Names 7) (codes "<Ok inResponseTo=\"7\"/>")
-    ∷ stops 9 4 (codes "<Ok>")
-    ∷  -- a number that is needed, and one that names nothing
-    formed (codes "<Ok/>")
-    ∷ okAt 18 3 Nothing (codes "<Ok inResponseTo=\"007\"/>")
-    ∷  -- found by the name behind the colon, and by the whole name
-    okAt 26 1 (Names 0) (codes "<a:Ok b=\"\"  inResponseTo='0'>c<d/></a:Ok>")
-    ∷ formed (codes "<Ok a:inResponseTo=\"7\"/>")
-    ∷ formed (codes "<SessionOK ID=\"7\"/>")
-    ∷ [])
-
--- the numbers that C sees
-abbrev pub NumbersForC : Type 0
-NumbersForC =
-    (map kindNumber
-    (kinds.SessionOpenRequest ∷ kinds.SessionOpenResponse ∷ kinds.SessionOk ∷ kinds.Ok ∷ kinds.Advisory ∷ kinds.Request ∷ kinds.Response ∷ [])
-    ≡ 1 ∷ 2 ∷ 3 ∷ 4 ∷ 5 ∷ 6 ∷ 7 ∷ [])
-    × (map statusNumber (statuses.Ok ∷ statuses.RedundantSession ∷ statuses.Other ∷ []) ≡ 1 ∷ 2 ∷ 0 ∷ [])
-    × (map adviceNumber (advices.UnreadableMessage ∷ advices.Other ∷ []) ≡ 1 ∷ 0 ∷ [])
-    × (map numberFlag (Names 7 ∷ Nothing ∷ []) ≡ 1 ∷ 0 ∷ [])
-    × (map numberNamed (Names 7 ∷ Nothing ∷ []) ≡ 7 ∷ 0 ∷ [])

@@ -1,5 +1,5 @@
 -- Promise 6, meanings: which texts name a number, a status and a type, and what comments and elements in them do.
--- (proofs/Meanings, proofs/References, proofs/BeyondAscii) Assumes nothing.
+-- (proofs/Meanings, proofs/References, proofs/ReferencesRead, proofs/BeyondAscii) Assumes nothing.
 use Prim.Native.Nat.{ℕ, _+_, _*_, _<_, _≤_}
 use mathlib.Core.Path.{_≡_}
 use mathlib.Core.Bool.{true, false}
@@ -40,9 +40,11 @@ module _ (s : List ℕ) where
   -- reference is the character that it names
   pub data ValueSays (to : ℕ) : ℕ → List ℕ → Type 0 where
     done : {at : ℕ} → to ≤ at → ValueSays to at []
-    pair : {at : ℕ} {text : List ℕ} → at < to → has (is 13) s at ≡ true → has (is 10) s (at + 1) ≡ true → ValueSays to (at + 2) text → ValueSays to at (32 ∷ text)
+    pair : {at : ℕ} {text : List ℕ} → at < to → has (is 13) s at ≡ true → has (is 10) s (at + 1) ≡ true → ValueSays to (at + 2) text
+        → ValueSays to at (32 ∷ text)
     space : {at : ℕ} {text : List ℕ} → at < to → Break at → ValueSays to (at + 1) text → ValueSays to at (32 ∷ text)
-    byte : {at : ℕ} {text : List ℕ} → at < to → NoBreak at → has (isText classOf) s at ≡ true → ValueSays to (at + 1) text → ValueSays to at (byteAt s at ∷ text)
+    byte : {at : ℕ} {text : List ℕ} → at < to → NoBreak at → has (isText classOf) s at ≡ true → ValueSays to (at + 1) text
+        → ValueSays to at (byteAt s at ∷ text)
     special : {at : ℕ} {text : List ℕ} (c : Character) → at < to → NoBreak at → has (isText classOf) s at ≡ false → specialAt s at ≡ whole c
         → ValueSays to (c .end) text → ValueSays to at (c .code ∷ text)
 
@@ -50,12 +52,14 @@ module _ (s : List ℕ) where
   pub data ContentSays (to : ℕ) : ℕ → List ℕ → Type 0 where
     done : {at : ℕ} → to ≤ at → ContentSays to at []
     comment : {at e : ℕ} {text : List ℕ} → at < to → has (is 60) s at ≡ true → bangAt classOf s at ≡ whole e → ContentSays to e text → ContentSays to at text
-    pair : {at : ℕ} {text : List ℕ} → at < to → has (is 13) s at ≡ true → has (is 10) s (at + 1) ≡ true → ContentSays to (at + 2) text → ContentSays to at (10 ∷ text)
-    line : {at : ℕ} {text : List ℕ} → at < to → has (is 13) s at ≡ true → has (is 10) s (at + 1) ≡ false → ContentSays to (at + 1) text → ContentSays to at (10 ∷ text)
-    byte : {at : ℕ} {text : List ℕ} → at < to → has (is 60) s at ≡ false → has (is 13) s at ≡ false → has (isText classOf) s at ≡ true → ContentSays to (at + 1) text
-        → ContentSays to at (byteAt s at ∷ text)
-    special : {at : ℕ} {text : List ℕ} (c : Character) → at < to → has (is 60) s at ≡ false → has (is 13) s at ≡ false → has (isText classOf) s at ≡ false → specialAt s at ≡ whole c
-        → ContentSays to (c .end) text → ContentSays to at (c .code ∷ text)
+    pair : {at : ℕ} {text : List ℕ} → at < to → has (is 13) s at ≡ true → has (is 10) s (at + 1) ≡ true → ContentSays to (at + 2) text
+        → ContentSays to at (10 ∷ text)
+    line : {at : ℕ} {text : List ℕ} → at < to → has (is 13) s at ≡ true → has (is 10) s (at + 1) ≡ false → ContentSays to (at + 1) text
+        → ContentSays to at (10 ∷ text)
+    byte : {at : ℕ} {text : List ℕ} → at < to → has (is 60) s at ≡ false → has (is 13) s at ≡ false → has (isText classOf) s at ≡ true
+        → ContentSays to (at + 1) text → ContentSays to at (byteAt s at ∷ text)
+    special : {at : ℕ} {text : List ℕ} (c : Character) → at < to → has (is 60) s at ≡ false → has (is 13) s at ≡ false → has (isText classOf) s at ≡ false
+        → specialAt s at ≡ whole c → ContentSays to (c .end) text → ContentSays to at (c .code ∷ text)
 
 -- ---- the characters that references name
 
@@ -70,20 +74,25 @@ pub data Digits (base : ℕ) : ℕ → List ℕ → Type 0 where
   first : (x d : ℕ) → Digit base x d → Digits base d (x ∷ [])
   further : {n : ℕ} {word : List ℕ} (x d : ℕ) → Digit base x d → Digits base n word → Digits base (n * base + d) (word ++ (x ∷ []))
 
--- what a reference that stands at the place is read as
-pub record References (s : List ℕ) (at : ℕ) : Type 0 where
-  pub less : Spelled (codes "&lt;") s at → specialAt s at ≡ whole (record { end = at + 4; code = 60 })
-  pub greater : Spelled (codes "&gt;") s at → specialAt s at ≡ whole (record { end = at + 4; code = 62 })
-  pub ampersand : Spelled (codes "&amp;") s at → specialAt s at ≡ whole (record { end = at + 5; code = 38 })
-  pub apostrophe : Spelled (codes "&apos;") s at → specialAt s at ≡ whole (record { end = at + 6; code = 39 })
-  pub quotation : Spelled (codes "&quot;") s at → specialAt s at ≡ whole (record { end = at + 6; code = 34 })
-  pub decimal : (n : ℕ) (word : List ℕ) → Digits 10 n word → legal n ≡ true → Spelled (codes "&#" ++ (word ++ codes ";")) s at
-      → specialAt s at ≡ whole (record { end = at + (3 + length word); code = n })
-  pub hexadecimal : (n : ℕ) (word : List ℕ) → Digits 16 n word → legal n ≡ true → Spelled (codes "&#x" ++ (word ++ codes ";")) s at
-      → specialAt s at ≡ whole (record { end = at + (4 + length word); code = n })
+-- a reference that stands at the place: where it ends, and the character that it names
+pub data Reference (s : List ℕ) (at : ℕ) : Character → Type 0 where
+  less : Spelled (codes "&lt;") s at → Reference s at (record { end = at + 4; code = 60 })
+  greater : Spelled (codes "&gt;") s at → Reference s at (record { end = at + 4; code = 62 })
+  ampersand : Spelled (codes "&amp;") s at → Reference s at (record { end = at + 5; code = 38 })
+  apostrophe : Spelled (codes "&apos;") s at → Reference s at (record { end = at + 6; code = 39 })
+  quotation : Spelled (codes "&quot;") s at → Reference s at (record { end = at + 6; code = 34 })
+  decimal : (n : ℕ) (word : List ℕ) → Digits 10 n word → legal n ≡ true → Spelled (codes "&#" ++ (word ++ codes ";")) s at
+      → Reference s at (record { end = at + (3 + length word); code = n })
+  hexadecimal : (n : ℕ) (word : List ℕ) → Digits 16 n word → legal n ≡ true → Spelled (codes "&#x" ++ (word ++ codes ";")) s at
+      → Reference s at (record { end = at + (4 + length word); code = n })
+
+-- What is read behind an `&` is one of these, and each of them is read.
+pub record ReferenceExactly (s : List ℕ) (at : ℕ) (c : Character) : Type 0 where
+  pub read : has (is 38) s at ≡ true → specialAt s at ≡ whole c → Reference s at c
+  pub reads : Reference s at c → specialAt s at ≡ whole c
 
 abbrev pub ReferencesMean : Type 0
-ReferencesMean = (s : List ℕ) (at : ℕ) → References s at
+ReferencesMean = (s : List ℕ) (at : ℕ) (c : Character) → ReferenceExactly s at c
 
 -- A character of more than one byte is none of ASCII, so it is part of no number and of no URI.
 abbrev pub OthersBeyondAscii : Type 0

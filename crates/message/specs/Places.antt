@@ -1,5 +1,5 @@
--- Promise 3, a limit's refusal stands where the paper puts it: what is before the place of a 10, 11, 12 or 14 can be continued, and what stands there is what is
--- refused. (proofs/Earliest) Assumes nothing.
+-- Promise 3, a limit's refusal stands where the paper puts it: what is before the place of a 10, 11, 12 or 14 can be continued, and what stands there is what
+-- is refused. (proofs/Earliest) Assumes nothing.
 use Prim.Native.Nat.{ℕ}
 use mathlib.Core.Path.{_≡_}
 use mathlib.Core.List.{List}

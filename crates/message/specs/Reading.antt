@@ -1,6 +1,7 @@
 -- What the readers below are made of. A reader is given the whole message s and a place in it, and answers with what it has read, or with the number
--- and the place of a refusal. No reader goes past the end of the message: where it ends too soon, the place of refusal is its length.
--- Assumes nothing.
+-- and the place of a refusal. No reader goes past the end of the message: where it ends too soon, the place of refusal is its length. A reader that goes on by
+-- turns is given fuel: that length, or one more where it may be whole at the message's end. Each turn takes a byte at least, so fuel can run out at the
+-- message's end alone, where the answer is 9 at the length with more fuel too. Assumes nothing.
 use Prim.Native.Nat.{ℕ, zero, suc, _+_, _-_}
 use mathlib.Core.Bool.{Bool, true, false, cond, _&&_, _||_}
 use mathlib.Core.List.{List, [], _∷_}

@@ -121,7 +121,8 @@ module _ (s : List ℕ) where
         → OneOfSeven root m
     advisory :
         (child type : Element) → m .kind ≡ kinds.Advisory → Called words.advisory (root .tag) → OnlyChild words.advisory root child
-        → PerhapsNumber words.inRelationTo (child .tag) (m .«in_relation_to») → First words.advisoryType (child .inside) type → TypeThere type (m .«advisory_type»)
+        → PerhapsNumber words.inRelationTo (child .tag) (m .«in_relation_to»)
+        → First words.advisoryType (child .inside) type → TypeThere type (m .«advisory_type»)
         → NoStatus (m .status) → NoNumber (m .id) → NoNumber (m .«in_response_to»)
         → OneOfSeven root m
     request :
@@ -215,7 +216,8 @@ ElementsStand = (s : List ℕ) (l : Limits) (root : Element) → documentAt clas
 -- the part of a name that elements are called by: behind its one colon, or all of it
 pub data Local (s : List ℕ) (at : ℕ) (name : Named) : Type 0 where
   undivided : name .local ≡ at → ((i : ℕ) → at ≤ i → i < name .end → byteAt s i ≡ 58 → ⊥) → Local s at name
-  divided : at < name .local → name .local < name .end → byteAt s (name .local - 1) ≡ 58 → ((i : ℕ) → at ≤ i → i < name .end → byteAt s i ≡ 58 → i ≡ name .local - 1) → Local s at name
+  divided : at < name .local → name .local < name .end → byteAt s (name .local - 1) ≡ 58
+      → ((i : ℕ) → at ≤ i → i < name .end → byteAt s i ≡ 58 → i ≡ name .local - 1) → Local s at name
 
 abbrev pub LocalNames : Type 0
 LocalNames = (s : List ℕ) (at : ℕ) (name : Named) → NameStands s at name → Local s at name

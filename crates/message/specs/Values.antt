@@ -39,7 +39,7 @@ module _ (class : ℕ → ℕ) (s : List ℕ) where
   unfoldable pub textLetterAt : ℕ → Reading Character
   textLetterAt at = cond (has (is 13) s at) (whole (record { end = lineEnd s at; code = 10 })) (letterAt at)
 
-  -- what a value from `at` up to `to` means, letter by letter; the fuel is one more than the message's length where it is called, and never used up
+  -- what a value from `at` up to `to` means, letter by letter
   unfoldable pub attributeMeaning : ℕ → ℕ → ℕ → Reading (List ℕ)
   attributeMeaning zero to at = refused 9 at
   attributeMeaning (suc fuel) to at =

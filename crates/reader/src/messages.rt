@@ -178,6 +178,7 @@ fn type_value(s: &[u8], table: &[u8; 256], begin: usize) -> TypeValue
     requires { ⌜ 0 < begin ⌝ }
     ensures { λ r. ⌜ TellsType (classIn (now (table .entry))) (now (s .entry)) begin r ⌝ }
 {
+    // It stands at level 3, so two of the levels are used up.
     let told = content::element(s, table, begin - 1, LEVELS - 2);
     let element = match told {
         Told::Whole(element) => element,

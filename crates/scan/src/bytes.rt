@@ -95,7 +95,7 @@ pub fn quote(s: &[u8], at: usize) -> Place
     byte(s, at, 39)
 }
 
-// How many bytes of a class of at least `least` stand from a place on, of the three before the end of the message.
+// How many bytes of a class of at least `least` stand from a place on, of at most three, where no four are left.
 fn last_few(s: &[u8], table: &[u8; 256], at: usize, least: u8) -> usize
     ensures { λ r. ⌜ r ≡ upTo 3 (atLeast (classIn (now (table .entry))) least) (now (s .entry)) at ⌝ }
 {

@@ -42,7 +42,7 @@ fn joined(high: u32, b: u8) -> u32
     high * 64 + (b as u32 - 128)
 }
 
-// Reads a character of two bytes, the first of which is known to begin one. So do the next two for three and four bytes.
+// Reads a character of two bytes, the first of which is known to begin one. So does the next for three bytes.
 fn two(s: &[u8], at: usize) -> Character
     requires { ⌜ has (isBetween 194 223) (now s) at ≡ true ⌝ }
     ensures { λ r. ⌜ characterSaid r ≡ twoAt (now (s .entry)) at ⌝ }
@@ -86,6 +86,7 @@ fn last_of_three(lead: u8, second: u8) -> u8
     191
 }
 
+// Reads a character of four bytes, the first of which it tests itself: it is tried where none of two or three begins.
 fn four(s: &[u8], at: usize) -> Character
     ensures { λ r. ⌜ characterSaid r ≡ fourAt (now (s .entry)) at ⌝ }
 {
