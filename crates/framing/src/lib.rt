@@ -28,7 +28,7 @@ pub enum Item {
 }
 
 impl Item {
-    // The item's number in document 01.
+    // The item's number: 8 is document 01's refusal, the others are those of INTERFACES.
     pub fn number(self) -> u32
         ensures { λ r. ⌜ r ≡ itemNumber self ⌝ }
     {
@@ -106,7 +106,7 @@ fn gather_within(
     }
     let cut = matching::scan(boundary, piece, matched as usize);
     let taken = cut.taken;
-    let kept = store::room(limit, size, gathered, taken);
+    let kept = store::kept(limit, size, gathered, taken);
     store::lay(store, gathered as usize, piece, kept);
     answers::of_cut(limit, size, gathered, cut)
 }

@@ -9,7 +9,7 @@ use lib.ListN.{length}
 use borrow.Author.Tests.{ltb-true, ltb-false, lt-ltb, le-ltb, ne-eqb}
 use Rattle.framing.specs.Cutting.{linkLimit, refusalOf}
 use Rattle.framing.proofs.Refusals as framing-refusals
-use Rattle.framing.proofs.Refusals.{answer-refusal, refused-changes-nothing}
+use Rattle.framing.proofs.Unchanged.{answer-refusal, refused-changes-nothing}
 use Rattle.line.specs.Lists.{tooShort}
 use Rattle.line.specs.Refusals.{DueForC, list, framing}
 use Rattle.line.specs.Gather.{gatherRefusal, gatherStore, gatherList}
