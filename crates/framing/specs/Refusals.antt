@@ -35,6 +35,6 @@ pub record Unchanged (limit : ℕ) (b s p : List ℕ) (g m : ℕ) : Type 0 where
   pub matched : answerOf limit b s p g m .matched ≡ m
   pub store : storeAfter limit b s p g m ≡ s
 
-abbrev pub RefusedChangesNothing : Type 0
-RefusedChangesNothing =
+abbrev pub RefusedCallChangesNothing : Type 0
+RefusedCallChangesNothing =
     (limit : ℕ) (b s p : List ℕ) (g m : ℕ) → (answerOf limit b s p g m .refusal ≡ 0 → ⊥) → Unchanged limit b s p g m

@@ -9,7 +9,7 @@ ghost use Rattle.framing.specs.Cutting.{linkLimit, itemNumber, itemLengt
 
 // The longest message of the link, the longest boundary, and the largest count. A message and its boundary fill at most
 // LINK_LIMIT + MOST_BOUNDARY bytes of the store.
-const LINK_LIMIT: u32 = 65520;
+pub const LINK_LIMIT: u32 = 65520;
 
 const MOST_BOUNDARY: usize = 16;
 

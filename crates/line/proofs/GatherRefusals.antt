@@ -7,7 +7,7 @@ use lib.ListN.{length}
 use borrow.Author.Tests.{ltb-true, ltb-false, lt-ltb, le-ltb, ne-eqb}
 use Rattle.framing.specs.Cutting.{linkLimit, refusalOf}
 use Rattle.framing.proofs.Refusals.{is-due, due-is}
-use Rattle.framing.proofs.Unchanged.{answer-refusal, refused-changes-nothing}
+use Rattle.framing.proofs.Unchanged.{answer-refusal, refused-call-changes-nothing}
 use Rattle.line.specs.Lists.{tooShort}
 use Rattle.line.specs.Gather.{gatherRefusal, gatherStore, gatherList}
 use Rattle.line.specs.Refusals.{DueForC, list, framing, GatherRefusedExactly, GatherRefusedWritesNothing}
@@ -20,7 +20,7 @@ gather-refused-writes-nothing b s p g m a refused = (go (tooShort a) refl, rw (n
     go true e = rw e
     go false e =
         rw e
-        (refused-changes-nothing linkLimit b s p g m
+        (refused-call-changes-nothing linkLimit b s p g m
         (λ none. refused (rw e (sym (answer-refusal linkLimit b s p g m) ∙ none))) .store)
 
 pub gather-refused-exactly : GatherRefusedExactly
