@@ -8,7 +8,7 @@
  * The lines of a piece are written before the next one is waited for, so that they show while the link is quiet.
  *
  * Exit status: 0 when the input was read to its end or its boundary was refused, which the listing says; 1 when reading
- * or writing failed, which standard error says; 2 when called with arguments.
+ * or writing failed, or a call of the archive was refused, which standard error says; 2 when called with arguments.
  */
 #include "ali_link.h"
 
@@ -66,8 +66,10 @@ static void write_said(struct line_side *side)
     size_t written = 0;
     while (written < side->said_length && side->write_error == 0) {
         ssize_t length = write(STDOUT_FILENO, side->said + written, side->said_length - written);
-        if (length >= 0)
+        if (length > 0)
             written += (size_t)length;
+        else if (length == 0)
+            side->write_error = EIO; /* a device that takes nothing and gives no reason would be asked for ever */
         else if (errno != EINTR)
             side->write_error = errno;
     }
@@ -93,7 +95,7 @@ static void say(struct line_side *side, const char *format, ...)
 /* Answers with the exit status, which tells it also where standard error cannot. */
 static int failed(const char *doing, int error)
 {
-    (void)fprintf(stderr, "line: %s: %s\n", doing, strerror(error));
+    (void)fprintf(stderr, "line_side: %s: %s\n", doing, strerror(error));
     return 1;
 }
 
@@ -198,7 +200,7 @@ static int list_input(struct line_side *side)
     if (length < 0)
         return failed("reading", errno);
     if (refusal != 0 && refusal != ALI_BOUNDARY_LENGTH) {
-        (void)fprintf(stderr, "line: a call of the archive was refused with %" PRIu32 "\n", refusal);
+        (void)fprintf(stderr, "line_side: a call of the archive was refused with %" PRIu32 "\n", refusal);
         return 1;
     }
     return list_end(side, refusal);

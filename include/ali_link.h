@@ -6,6 +6,10 @@
  *   - each is aligned for its type and valid for as many elements as the length behind it says;
  *   - what is lent to be written (store, answer) overlaps nothing else that is lent to the same call.
  * Nothing is kept after a call returns, and nothing is allocated.
+ *
+ * To build a program over it, at the top of the repository:
+ *   rt staticlib line
+ *   cc -std=c11 -Iinclude prog.c target/staticlib/libline.a
  */
 #ifndef ALI_LINK_H
 #define ALI_LINK_H
@@ -78,7 +82,7 @@ enum {
     ALI_PLACE = 1,   /* where in the message its bytes begin; 0 for an empty-element tag */
     ALI_BYTES = 2,   /* how many they are, as they stand, references and all */
     ALI_MEANING = 3, /* one of the ALI_MEANS_ numbers */
-    ALI_NUMBER = 4   /* the number it names; 0 where it names none */
+    ALI_NUMBER = 4   /* the number it names; 0 where it names none, but 0 is a number too: ALI_MEANING tells */
 };
 
 /* Meanings. 0 is "names no number" for ALI_ID, ALI_IN_RESPONSE_TO and ALI_IN_RELATION_TO, "other" for the rest. */
@@ -105,9 +109,11 @@ enum {
     ALI_ANSWER_PLACES = 40    /* places an answer list needs, for each of the functions */
 };
 
-/* Takes bytes of `piece` until one item is complete or the piece is used up, and lays them into `store` from place
- * `gathered` on. `gathered` and `matched` are both 0 at first; from then on they are what the call before answered.
- * After an item the rest of the piece is handed in again, from the first byte that was not taken.
+/* Takes bytes of `piece` until one item is complete or the piece is used up. They belong at the places of `store` from
+ * `gathered` on, and those are laid there whose place lies below 65,520 + boundary_length; no other place is written.
+ * `gathered` and `matched` are both 0 at first; from then on they are what the call before answered, and the boundary
+ * stays the same. After an item the rest of the piece is handed in again, from the first byte that was not taken. A
+ * message is the first ALI_LENGTH bytes of the store, until the next call.
  *
  * Returns 0, or the number of the refusal, tried in the order 3, 1, 2, 26. A refused call writes nothing anywhere.
  * Otherwise exactly the first five places of `answer` are written. */

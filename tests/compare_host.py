@@ -12,7 +12,6 @@ failed`; the exit status is 0 only if nothing failed.
 
 import os
 import random
-import resource
 import socket
 import subprocess
 import sys
@@ -25,6 +24,8 @@ sys.path.insert(0, os.path.join(TOP, "tests", "independent"))
 
 from checks import X86, Difference, equal  # noqa: E402
 from comparison import parser_of_comparison, random_numbers, run_and_count  # noqa: E402
+from failing import (from_folder, from_reset_socket, into_broken_pipe, onto_file_that_may_not_grow,  # noqa: E402
+                     onto_full_device, with_descriptor_closed)
 from listing import listing  # noqa: E402
 from listing_cases import BY_HAND, HEADER, NOTHING, STOPPED, random_input  # noqa: E402
 from programs import (PATIENCE_SECONDS, cut_at_random, first_differing_line, output_of_file,  # noqa: E402
@@ -166,73 +167,24 @@ def run_random(tally, programs, seed, numbers):
 
 # ---- reads and writes that fail ----
 
-def ended(command, stdin=subprocess.DEVNULL, stdout=subprocess.PIPE, before=None):
-    """Signals that Python ignores stay ignored, so that a write to a broken pipe fails and does not kill."""
-    done = subprocess.run(command, stdin=stdin, stdout=stdout, stderr=subprocess.PIPE, timeout=PATIENCE_SECONDS, check=False,
-                          preexec_fn=before, restore_signals=False)
-    return done.stdout, done.returncode, done.stderr
-
-
-def with_descriptor_closed(command, closing):
-    return ended(("sh", "-c", 'exec "$@" ' + closing, "sh", *command))
-
-
-def onto_full_device(command):
-    with open("/dev/full", "wb") as full:
-        return ended(command, stdout=full)
-
-
-def into_broken_pipe(command):
-    out, into = os.pipe()
-    os.close(out)
-    with open(into, "wb") as broken:
-        return ended(command, stdout=broken)
-
-
-def onto_file_that_may_not_grow(command):
-    """Its first 40 bytes are written, the others are not."""
-    with tempfile.TemporaryFile() as given, tempfile.TemporaryFile() as taken:
-        given.write(b"##\n" + (OK + b"##") * 10)
-        given.seek(0)
-        _, status, said = ended(command, given, taken, lambda: resource.setrlimit(resource.RLIMIT_FSIZE, (40, 40)))
-        taken.seek(0)
-        return taken.read(), status, said
-
-
-def from_folder(command):
-    folder = os.open(TOP, os.O_RDONLY | os.O_DIRECTORY)
-    try:
-        return ended(command, folder)
-    finally:
-        os.close(folder)
-
-
-def from_reset_socket(command):
-    """What was sent is read first; then, as this end closed with bytes unread, a read fails."""
-    near, far = socket.socketpair()
-    with near, far:
-        far.sendall(b"unread")
-        near.sendall(b"##\n" + OK + b"##<Ok")
-        near.close()
-        return ended(command, far)
-
-
 # Name, what is done, what standard error names, standard output where it can be seen.
 FAILING = (
     ("standard output closed", lambda command: with_descriptor_closed(command, ">&-"), b"writing", b""),
     ("/dev/full", onto_full_device, b"writing", None),
     ("a broken pipe", into_broken_pipe, b"writing", None),
-    ("a file that may not grow", onto_file_that_may_not_grow, b"writing", (HEADER + b"1 22 Ok 0 0\n")[:40]),
+    ("a file that may not grow", lambda command: onto_file_that_may_not_grow(command, b"##\n" + (OK + b"##") * 10), b"writing",
+     (HEADER + b"1 22 Ok 0 0\n")[:40]),
     ("standard input closed", lambda command: with_descriptor_closed(command, "<&-"), b"reading", HEADER),
     ("a folder as input", from_folder, b"reading", HEADER),
-    ("a reset socket", from_reset_socket, b"reading", HEADER + b"1 22 Ok 0 0\n"),
+    ("a reset socket", lambda command: from_reset_socket(command, b"##\n" + OK + b"##<Ok"), b"reading",
+     HEADER + b"1 22 Ok 0 0\n"),
 )
 
 
 def check_failing(run, word, expected):
     output, status, said = run
     equal(status, 1, "exit status")
-    if not (said.startswith(b"line: %s: " % word) and said.count(b"\n") == 1):
+    if not (said.startswith(b"line_side: %s: " % word) and said.count(b"\n") == 1):
         raise Difference("standard error: %.300r, expected one line about %s" % (said, word.decode()))
     if expected is not None:
         equal(output, expected, "standard output")

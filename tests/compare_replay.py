@@ -4,11 +4,11 @@
     python3 tests/compare_replay.py [--cases N] [--seed S] [--case I] PROGRAM [WORD ..]
 
 PROGRAM and the words after it are the command that runs it, say `tools/x86 run target/bin/replay`. Runs the model's own
-tests, the scripts that were written by hand with the output due, from a file and bit by bit through a pipe, the fixed
-vectors of tests/vectors/session.txt, which are also made again, and N random scripts. A difference is printed with what
-repeats it; `python3 tests/independent/session_cases.py S I` prints the script of a random one. The random part counts
-what it met and fails if something never came. The last line is `N passed, M failed`; the exit status is 0 only if
-nothing failed.
+tests, the scripts that were written by hand with the output due, from a file and bit by bit through a pipe, reads and
+writes that fail, the fixed vectors of tests/vectors/session.txt, which are also made again, and N random scripts. A
+difference is printed with what repeats it; `python3 tests/independent/session_cases.py S I` prints the script of a
+random one. The random part counts what it met and fails if something never came. The last line is `N passed, M failed`;
+the exit status is 0 only if nothing failed.
 """
 
 import collections
@@ -19,6 +19,8 @@ sys.path.insert(0, os.path.join(os.path.dirname(os.path.abspath(__file__)), "ind
 
 from checks import Difference, compare_vectors_made_again, vectors_of  # noqa: E402
 from comparison import random_numbers, run_and_count  # noqa: E402
+from failing import (from_folder, from_reset_socket, into_broken_pipe, onto_file_that_may_not_grow,  # noqa: E402
+                     onto_full_device, run_cut_off, with_descriptor_closed)
 from make_session_vectors import vectors_text  # noqa: E402
 from paper_runs import PAPER_SCRIPTS  # noqa: E402
 from programs import ProgramComparison, output_of_file  # noqa: E402
@@ -36,6 +38,19 @@ LEAST_CALLS = 100000
 COMPARISON = ProgramComparison(
     description="Holds the program replay against the independent model of the session.", thing="script", cases=540,
     model=replay, by_hand=SESSION_BY_HAND + REPLAY_BY_HAND + PAPER_SCRIPTS, stopped=b"stop 4\n")
+
+# Where the script is cut off, no line `end` or `stop` follows, and what came of its last line does nothing.
+CUT_OFF = (
+    ("standard output closed", lambda command: with_descriptor_closed(command, ">&-"), b""),
+    ("/dev/full", onto_full_device, None),
+    ("a broken pipe", into_broken_pipe, None),
+    ("a file that may not grow", lambda command: onto_file_that_may_not_grow(command, b"x\n" * 5000),
+     b"line 1 bad\nline 2 bad\nline 3 bad\nline 4 "),
+    ("standard input closed", lambda command: with_descriptor_closed(command, "<&-"), b""),
+    ("a folder as input", from_folder, b""),
+    ("a reset socket", lambda command: from_reset_socket(command, b"x\n\nstop now\ny"), b"line 1 bad\nline 3 bad\n"),
+    ("a reset socket among the settings", lambda command: from_reset_socket(command, b"interval 0\n"), b""),
+)
 
 
 def run_self_tests(tally, lines):
@@ -100,6 +115,7 @@ def run_all(arguments, tally):
         lines = vectors_of(VECTORS)
         run_self_tests(tally, lines)
         COMPARISON.run_by_hand(tally, command)
+        run_cut_off(tally, command, CUT_OFF)
         run_vectors(tally, command, lines)
     COMPARISON.run_random(tally, command, arguments.seed, random_numbers(arguments), met.script_and_output)
     if arguments.case is None:

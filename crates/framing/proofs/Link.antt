@@ -1,6 +1,6 @@
 -- THEOREMS on the link's own limit. `link-lent`: a store of 65,536 bytes is enough. `link-items`: which items there are, by the bytes before the
--- boundary. `item-numbers`: their numbers. Assumes nothing.
-use mathlib.Core.Path.{_≡_, refl, ap, _∙_}
+-- boundary. Assumes nothing.
+use mathlib.Core.Path.{_≡_, ap, _∙_}
 use mathlib.Core.List.{_++_}
 use Prim.Native.Nat.{ℕ, _+_, _-_}
 use native.Mathlib.Omega.{arith}
@@ -9,13 +9,10 @@ use lib.Seq.{take-append-seam}
 use borrow.Author.Tests.{eq-eqb, ne-eqb, le-leb, lt-leb}
 use Rattle.framing.specs.Cutting.{linkLimit}
 use Rattle.framing.specs.Stream.{message, itemOfPart}
-use Rattle.framing.specs.Promises.{LinkLent, LinkItems, ItemNumbers}
+use Rattle.framing.specs.Promises.{LinkLent, LinkItems}
 
 pub link-lent : LinkLent
 link-lent b s some few roomy = record { some = some; few = few; roomy = omega arith; countable = omega arith }
-
-pub item-numbers : ItemNumbers
-item-numbers = (refl, refl, (λ n. refl), refl, refl, refl, (λ n. refl), refl)
 
 pub link-items : LinkItems
 unfolding itemOfPart

@@ -1,17 +1,13 @@
--- THEOREMS. `refused-exactly`: a number of refusal, or 0, is given exactly when it is due. `refused-changes-nothing`: a refused call takes no byte,
--- hands back the numbers that it was given, and leaves the store as it was. Assumes nothing.
-use mathlib.Core.Path.{_≡_, refl, sym, subst, _∙_}
-use mathlib.Core.Logic.{inl, inr, _↔_}
+-- THEOREM `refused-exactly`: a number of refusal, or 0, is given exactly when it is due. Assumes nothing.
+use mathlib.Core.Path.{_≡_, refl, subst}
+use mathlib.Core.Logic.{inl, inr}
 use mathlib.Core.Bool.{Bool, true, false, cond, _||_}
-use mathlib.Core.List.{List}
 use Prim.Native.Nat.{ℕ, _+_}
 use native.Mathlib.Omega.{arith}
-use lib.ListN.{length}
-use lib.Dec.{ltb, leb, eqb}
-use borrow.Author.Tests.{ltb-true, ltb-false, leb-true, leb-false, lt-ltb, le-ltb, le-leb, lt-leb, eqb-true, ne-eqb}
-use Rattle.framing.specs.Cutting.{mostBoundary, refusalOf, refusedWith, answered, cutOf, answerOf, storeAfter}
-use Rattle.framing.proofs.Call.{answered-keeps}
-use Rattle.framing.specs.Refusals.{Accepted, Due, boundary, store, held, nothing, Unchanged}
+use lib.Dec.{ltb, leb}
+use borrow.Author.Tests.{ltb-true, ltb-false, leb-true, leb-false, lt-ltb, le-ltb, le-leb, lt-leb}
+use Rattle.framing.specs.Cutting.{mostBoundary, refusalOf}
+use Rattle.framing.specs.Refusals.{Accepted, Due, boundary, store, held, nothing, RefusedExactly}
 
 module _ (limit k n g m : ℕ) where
   -- what is given is due
@@ -64,34 +60,15 @@ module _ (limit k n g m : ℕ) where
         le-ltb g m (a .within),
       )
 
-  pub refused-exactly : (number : ℕ) → (refusalOf limit k n g m ≡ number) ↔ Due limit k n g m number
-  refused-exactly number = (λ is. subst (Due limit k n g m) is is-due, due-is number)
+pub refused-exactly : RefusedExactly
+refused-exactly limit k n g m number = (λ is. subst (Due limit k n g m) is (is-due limit k n g m), due-is limit k n g m number)
 
-  -- a call that is not refused is lent what it needs, and holds numbers that fit
-  pub accepted : refusalOf limit k n g m ≡ 0 → Accepted limit k n g m
-  accepted none = fits 0 (refused-exactly 0 .0 none) refl
-    where
-      fits : (number : ℕ) → Due limit k n g m number → number ≡ 0 → Accepted limit k n g m
-      fits _ (boundary _) e = absurd (omega arith)
-      fits _ (store _ _ _) e = absurd (omega arith)
-      fits _ (held _ _ _ _) e = absurd (omega arith)
-      fits _ (nothing a) e = a
-
-module _ (limit : ℕ) (b s p : List ℕ) (g m : ℕ) where
-  -- the answer's refusal is the call's
-  pub answer-refusal : answerOf limit b s p g m .refusal ≡ refusalOf limit (length b) (length s) g m
-  unfolding answerOf
-  answer-refusal = go (eqb number 0) refl
-    where
-      number : ℕ
-      number = refusalOf limit (length b) (length s) g m
-
-      go : (t : Bool) → eqb number 0 ≡ t → cond t (answered limit (length b) g (cutOf b p m)) (refusedWith number g m) .refusal ≡ number
-      go true e = answered-keeps limit (length b) g (cutOf b p m) .0 ∙ sym (eqb-true number 0 e)
-      go false e = refl
-
-  pub refused-changes-nothing : (answerOf limit b s p g m .refusal ≡ 0 → ⊥) → Unchanged limit b s p g m
-  unfolding answerOf storeAfter
-  refused-changes-nothing refused =
-      let off : eqb (refusalOf limit (length b) (length s) g m) 0 ≡ false = ne-eqb _ 0 (λ none. refused (answer-refusal ∙ none)) in
-      record { taken = rw off; item = rw off; gathered = rw off; matched = rw off; store = rw off }
+-- a call that is not refused is lent what it needs, and holds numbers that fit
+pub accepted : (limit k n g m : ℕ) → refusalOf limit k n g m ≡ 0 → Accepted limit k n g m
+accepted limit k n g m none = fits 0 (refused-exactly limit k n g m 0 .0 none) refl
+  where
+    fits : (number : ℕ) → Due limit k n g m number → number ≡ 0 → Accepted limit k n g m
+    fits _ (boundary _) e = absurd (omega arith)
+    fits _ (store _ _ _) e = absurd (omega arith)
+    fits _ (held _ _ _ _) e = absurd (omega arith)
+    fits _ (nothing a) e = a

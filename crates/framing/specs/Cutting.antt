@@ -60,7 +60,7 @@ countAfter g t = min (g + t) mostCount
 unfoldable pub itemOf : ℕ → ℕ → ℕ → Item
 itemOf limit k n = cond (eqb n k) Empty (cond (leb (n - k) limit) (Message (n - k)) TooLong)
 
--- the paper's numbers of the items, and the length of a message
+-- the numbers of the items, of which 8 is the refusal of document 01 and the others are those of INTERFACES, and the length of a message
 abbrev pub itemNumber : Item → ℕ
 itemNumber NotYet = 0
 itemNumber Empty = 1

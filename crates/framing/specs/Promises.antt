@@ -1,5 +1,5 @@
--- What the definitions promise, over every limit: the theorems, each with the file of proofs/ that shows it. (When a call is refused, and that it
--- changes nothing then, is said in Refusals.) Assumes nothing.
+-- What the definitions promise, over every limit: the theorems, each with the file of proofs/ that shows it. (Those on refused calls stand in
+-- `Refusals`.) Assumes nothing.
 use Prim.Native.Nat.{ℕ, _+_, _-_, _≤_, _<_}
 use mathlib.Core.Path.{_≡_}
 use mathlib.Core.List.{List, [], _∷_, _++_}
@@ -38,7 +38,7 @@ pub record LinkItem (b x : List ℕ) : Type 0 where
 abbrev pub LinkItems : Type 0
 LinkItems = (b x : List ℕ) → LinkItem b x
 
--- The numbers that C sees of items: 0 where none is complete, 1, 2 and 8, and the length of a message. (Link)
+-- The numbers that C sees of items: 0 where none is complete, 1, 2 and 8, and the length of a message. (Numbers)
 abbrev pub ItemNumbers : Type 0
 ItemNumbers =
     (itemNumber NotYet ≡ 0) × (itemNumber Empty ≡ 1) × ((n : ℕ) → itemNumber (Message n) ≡ 2) × (itemNumber TooLong ≡ 8)

@@ -9,7 +9,7 @@ ghost use Rattle.framing.specs.Cutting.{linkLimit, itemNumber, itemLengt
 
 // The longest message of the link, the longest boundary, and the largest count. A message and its boundary fill at most
 // LINK_LIMIT + MOST_BOUNDARY bytes of the store.
-const LINK_LIMIT: u32 = 65520;
+pub const LINK_LIMIT: u32 = 65520;
 
 const MOST_BOUNDARY: usize = 16;
 
@@ -28,7 +28,7 @@ pub enum Item {
 }
 
 impl Item {
-    // The item's number in document 01.
+    // The item's number: 8 is document 01's refusal, the others are those of INTERFACES.
     pub fn number(self) -> u32
         ensures { λ r. ⌜ r ≡ itemNumber self ⌝ }
     {
@@ -106,7 +106,7 @@ fn gather_within(
     }
     let cut = matching::scan(boundary, piece, matched as usize);
     let taken = cut.taken;
-    let kept = store::room(limit, size, gathered, taken);
+    let kept = store::kept(limit, size, gathered, taken);
     store::lay(store, gathered as usize, piece, kept);
     answers::of_cut(limit, size, gathered, cut)
 }

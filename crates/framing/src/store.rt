@@ -3,12 +3,12 @@ ghost use mathlib.Core.Path.{_≡_};
 ghost use Prim.Native.Nat.{_-_, _≤_};
 ghost use lib.ListN.{length};
 ghost use lib.Seq.{paste};
-ghost use Rattle.framing.specs.Cutting.{kept};
+ghost use Rattle.framing.specs.Cutting.{kept as Cutting·kept};
 
 // How many of the bytes taken go into the store.
-pub(crate) fn room(limit: u32, size: usize, gathered: u32, taken: usize) -> usize
+pub(crate) fn kept(limit: u32, size: usize, gathered: u32, taken: usize) -> usize
     requires { ⌜ size ≤ 16 ⌝ }
-    ensures { λ r. ⌜ r ≡ kept limit size gathered taken ⌝ }
+    ensures { λ r. ⌜ r ≡ Cutting·kept limit size gathered taken ⌝ }
 {
     let end = limit as usize + size;
     let at = gathered as usize;

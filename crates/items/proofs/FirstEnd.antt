@@ -12,6 +12,7 @@ use borrow.Author.Tests.{eq-eqb, ltb-true, ltb-false}
 use Rattle.laws.proofs.Tests.{true-false}
 use Rattle.laws.proofs.Search.{least-is, least-none, least-same, least-passes}
 use Rattle.items.specs.Listing.{boundaryEnd, refusedEnd}
+use Rattle.items.specs.Whole.{EndOfStart}
 
 -- no LF among the first i bytes
 abbrev pub NoneBefore : List ℕ → ℕ → Type 0
@@ -34,7 +35,7 @@ module _ (input : List ℕ) (i : ℕ) (none : NoneBefore input i) where
       go j true e = none j (ltb-true j i e)
       go j false e = ap (λ (x : ℕ). eqb x 10) (List·getD-eq-default input 0 {n = j} (omega (arith, ltb-false j i e)))
 
-pub end-of-start : (input : List ℕ) → boundaryEnd (take 17 input) ≡ boundaryEnd input
+pub end-of-start : EndOfStart
 unfolding boundaryEnd
 end-of-start input =
     least-same (λ k. eqb (getD (take 17 input) k 0) 10) (λ k. eqb (getD input k 0) 10) 17

@@ -40,7 +40,7 @@ heldWith h number = record { gathered = h .gathered; matched = h .matched; numbe
 abbrev pub printed : {b : List ℕ} {h last : framing.Held} {pieces : List (List ℕ)} {items : List framing.StreamItem}
     → framing.Calls linkLimit b h pieces items last → ℕ → List ℕ
 printed framing.over number = []
-printed {b} {h} (framing.used {p = p} refused item rest) number =
+printed {b} {h} (framing.used {p = p} accepted item rest) number =
     lineOfTurn b (h .store) p (heldWith h number) ++ printed rest (turnOf b (h .store) p (heldWith h number) .held .number)
-printed {b} {h} (framing.cut {p = p} refused handed rest) number =
+printed {b} {h} (framing.cut {p = p} accepted handed rest) number =
     lineOfTurn b (h .store) p (heldWith h number) ++ printed rest (turnOf b (h .store) p (heldWith h number) .held .number)

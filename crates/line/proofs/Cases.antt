@@ -8,7 +8,7 @@ use lib.ListN.{length}
 use borrow.Author.Tests.{eq-eqb, ne-eqb}
 use Rattle.framing.specs.declared.Answer.{Answer}
 use Rattle.framing.specs.Cutting.{linkLimit, refusalOf, answerOf, storeAfter}
-use Rattle.framing.proofs.Refusals.{answer-refusal}
+use Rattle.framing.proofs.Unchanged.{answer-refusal}
 use Rattle.line.specs.Lists.{tooShort, written}
 use Rattle.line.specs.Gather.{gatherRefusal, gatherStore, answerNumbers, gatherList}
 

@@ -1,8 +1,11 @@
--- `Written` has the laws on the list, `Cases` and `ReadCases` the cases of a call for its proof, `Gather` and `Read` the theorems on the calls, and
--- `OneAnswer` that their contracts have one answer.
+-- `Written` has the laws on the list, and `Cases` and `ReadCases` the cases of a call for its proof. The theorems of specs/Refusals stand in `GatherRefusals` and
+-- `ReadRefusals`, those of specs/Promises in `GatherNumbers`, `ReadNumbers` and `ReadPlaces`; `OneAnswer` says that the contracts have one answer.
 mod Written
 mod Cases
 mod ReadCases
-pub mod Gather
-pub mod Read
+pub mod GatherRefusals
+pub mod GatherNumbers
+pub mod ReadRefusals
+pub mod ReadNumbers
+pub mod ReadPlaces
 pub mod OneAnswer

@@ -65,12 +65,12 @@ calls-done : {h last : Held} {pieces : List (List ℕ)} {items : List StreamItem
     → (w : List ℕ) → Right linkLimit boundary w h → (run : Run) → turns calls run ≡ takenItems run items
 unfolding takenAfter
 calls-done over w right run = refl
-calls-done {h} (used {p = p} refused item rest) w right run =
+calls-done {h} (used {p = p} accepted item rest) w right run =
     let next = goes-on w h right p in
     let store = heldAfter linkLimit boundary h p .store in
     ap (λ (d : Done). andThen d (turns rest)) (turn-done w h right p run ∙ ap (λ (i : Item). takenAfter run i store) item)
     ∙ calls-done rest (next .0) (next .1) run
-calls-done {h} (cut {p = p} {i = i} {items = items} refused handed rest) w right run =
+calls-done {h} (cut {p = p} {i = i} {items = items} accepted handed rest) w right run =
     let next = goes-on w h right p in
     let done = takenItem run i in
     ap (λ (d : Done). andThen d (turns rest)) (turn-done w h right p run ∙ handed-done handed run)

@@ -46,5 +46,5 @@ heldWith h run = record { gathered = h .gathered; run = run }
 abbrev pub turns : {h last : framing.Held} {pieces : List (List ℕ)} {items : List framing.StreamItem}
     → framing.Calls linkLimit boundary h pieces items last → Run → Done
 turns framing.over run = silent run
-turns {h} (framing.used {p = p} refused item rest) run = andThen (doneOfTurn (h .store) p (heldWith h run)) (turns rest)
-turns {h} (framing.cut {p = p} refused handed rest) run = andThen (doneOfTurn (h .store) p (heldWith h run)) (turns rest)
+turns {h} (framing.used {p = p} accepted item rest) run = andThen (doneOfTurn (h .store) p (heldWith h run)) (turns rest)
+turns {h} (framing.cut {p = p} accepted handed rest) run = andThen (doneOfTurn (h .store) p (heldWith h run)) (turns rest)

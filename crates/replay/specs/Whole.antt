@@ -1,5 +1,6 @@
--- Promise: the program replay: the turns over the pieces of a script, in order, and what follows the last of them print what `Replay`
--- says of the script. (proofs/Whole) Assumes nothing.
+-- Promise of the program replay: the turns over the pieces of a script, in order, and what follows the last of them print what `Replay`
+-- says of the script. Where a read fails, the turns up to there are the script's, and the program leaves out what follows the last. (proofs/Whole)
+-- Assumes nothing.
 use mathlib.Core.Path.{_≡_}
 use mathlib.Core.List.{List}
 use Prim.Native.Nat.{ℕ, _≤_}

@@ -1,10 +1,12 @@
 // The program `replay`: one provider session over a script on standard input (specs/Replay.antt says what is printed for a whole script).
-// What is printed for a call and a line, and what a line does to the run, are proved; reading and writing have no contract.
+// What is printed for a call and a line, and what a line does to the run, are proved; reading and writing have no contract. What a failed
+// read or write cuts off gets no last line, so that it does not look whole.
 mod lines;
 mod runs;
 mod script;
 
 use framing::Item;
+use framing::LINK_LIMIT;
 use libc::STDIN_FILENO;
 use libc::STDOUT_FILENO;
 use runs::Phase;
@@ -26,9 +28,6 @@ const PLACES: usize = 40;
 // The bytes of a message stand behind the word and its space.
 const MESSAGE_AT: usize = 8;
 
-// The longest line.
-const MOST_BYTES: u32 = 65520;
-
 // What is kept from one piece of the script to the next: the bytes of a line that wait in the store, and the run.
 struct Held {
     gathered: u32,
@@ -41,10 +40,20 @@ struct Turn {
     held: Held,
 }
 
-// How a read went: whether there was something to read, and what is held after it.
+// How a read went: whether there was something to read, whether it failed, and what is held after it.
 struct Step {
     more: bool,
+    failed: bool,
     held: Held,
+}
+
+// After a write that failed there is nothing more to say. With both ends closed no later write leaves a gap, and the next read fails, so
+// that no last line follows.
+fn write(bytes: &[u8]) {
+    if !io::write_all(STDOUT_FILENO, bytes) {
+        libc::close(STDOUT_FILENO);
+        libc::close(STDIN_FILENO);
+    }
 }
 
 fn run_call(run: Run, told: Told) -> Run
@@ -53,7 +62,7 @@ fn run_call(run: Run, told: Told) -> Run
 {
     let mut out = io::buffer();
     let length = lines::answer(&mut out, run.call, told);
-    io::write_all(STDOUT_FILENO, &out[..length]);
+    write(&out[..length]);
     runs::after_call(run, told)
 }
 
@@ -75,7 +84,7 @@ fn write_bad(run: Run) -> Run
 {
     let mut out = io::buffer();
     let length = lines::bad(&mut out, run.line);
-    io::write_all(STDOUT_FILENO, &out[..length]);
+    write(&out[..length]);
     run
 }
 
@@ -183,19 +192,24 @@ fn take_some(store: &mut [u8], held: Held) -> Step
     let mut piece = io::buffer();
     let got = libc::read(STDIN_FILENO, &mut piece);
     if got <= 0 {
-        return Step { more: false, held };
+        return Step {
+            more: false,
+            failed: got < 0,
+            held,
+        };
     }
     let n = io::count(got, &piece);
     let after = take_piece(store, &piece[..n], held);
     Step {
         more: true,
+        failed: false,
         held: after,
     }
 }
 
 // Reads to the end of the script. A loop has to end, and nothing says that the input does: so the turns are counted down, from a number
 // that no run uses up.
-fn take_all(store: &mut [u8], first: Held) -> Held
+fn take_all(store: &mut [u8], first: Held) -> Step
     requires { ⌜ 65536 ≤ length (now store) ⌝ }
 {
     let mut held = first;
@@ -204,11 +218,15 @@ fn take_all(store: &mut [u8], first: Held) -> Held
         let step = take_some(store, held);
         held = step.held;
         if !step.more {
-            break;
+            return step;
         }
         turns -= 1;
     }
-    held
+    Step {
+        more: true,
+        failed: true,
+        held,
+    }
 }
 
 // A last line without an LF counts too.
@@ -220,12 +238,23 @@ fn take_rest(store: &[u8], held: Held) -> Run
     if held.gathered == 0 {
         return run;
     }
-    if MOST_BYTES < held.gathered {
+    if LINK_LIMIT < held.gathered {
         return take_line(run, Line::Bad, &store[..0]);
     }
     let length = held.gathered as usize;
     let bytes = &store[..length];
     take_line(run, script::line_of(bytes), bytes)
+}
+
+// The end of the script: it ends a last line, and the settings too.
+fn finish(store: &[u8], held: Held)
+    requires { ⌜ 65536 ≤ length (now store) ⌝ }
+{
+    let run = take_rest(store, held);
+    let ended = runs::ready(run, Line::Bad);
+    let mut out = io::buffer();
+    let length = lines::last(&mut out, ended);
+    write(&out[..length]);
 }
 
 fn main() {
@@ -234,10 +263,8 @@ fn main() {
         gathered: 0,
         run: runs::fresh(),
     };
-    let held = take_all(&mut store, fresh);
-    let run = take_rest(&store, held);
-    let ended = runs::ready(run, Line::Bad);
-    let mut out = io::buffer();
-    let length = lines::last(&mut out, ended);
-    io::write_all(STDOUT_FILENO, &out[..length]);
+    let step = take_all(&mut store, fresh);
+    if !step.failed {
+        finish(&store, step.held);
+    }
 }

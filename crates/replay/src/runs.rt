@@ -45,7 +45,6 @@ pub(crate) fn fresh() -> Run
     }
 }
 
-// The session is made.
 fn made(run: Run) -> Run
     ensures { λ r. ⌜ r ≡ madeRun run ⌝ }
 {
@@ -90,7 +89,6 @@ pub(crate) fn ready(run: Run, line: Line) -> Run
     }
 }
 
-// A call was made on the session.
 pub(crate) fn after_call(run: Run, told: Told) -> Run
     ensures { λ r. ⌜ r ≡ Runs·afterCall run told ⌝ }
 {
@@ -105,7 +103,6 @@ pub(crate) fn after_call(run: Run, told: Told) -> Run
     }
 }
 
-// The next line.
 pub(crate) fn next_line(run: Run) -> Run
     ensures { λ r. ⌜ r ≡ nextLine run ⌝ }
 {
@@ -120,7 +117,6 @@ pub(crate) fn next_line(run: Run) -> Run
     }
 }
 
-// A setting is taken.
 pub(crate) fn settled(run: Run, interval: u32) -> Run
     ensures { λ r. ⌜ r ≡ Runs·settled run interval ⌝ }
 {
@@ -135,7 +131,6 @@ pub(crate) fn settled(run: Run, interval: u32) -> Run
     }
 }
 
-// The last taken number is set.
 pub(crate) fn renumbered(run: Run, last: u32) -> Run
     ensures { λ r. ⌜ r ≡ Runs·renumbered run last ⌝ }
 {

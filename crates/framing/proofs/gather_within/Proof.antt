@@ -48,14 +48,14 @@ returns c =
 scan-requires : tie.Need-scan-requires
 scan-requires c κs = fits c .below
 
-room-requires : tie.Need-room-requires
-room-requires c κs = fits (c .before) .few
+kept-requires : tie.Need-kept-requires
+kept-requires c κs = fits (c .before) .few
 
 lay-requires : tie.Need-lay-requires
 lay-requires c κs =
     let ok = fits (c .before .before .before) in
     let fit = cut-fit (c .before .before) in
-    omega (arith, c .before .room .ensures)
+    omega (arith, c .before .kept .ensures)
 
 of-cut-requires : tie.Need-of-cut-requires
 of-cut-requires c κs =
@@ -75,7 +75,7 @@ returns-2 c =
     let said =
     when-taken (a .limit) (now (a .boundary)) (now (a .store)) (now (a .piece)) (a .gathered) (a .matched) (number .result) (number .ensures)
     (at-scan .before .if1 .left) in
-    (rw (at-scan .scan .ensures) at (c .of-cut .ensures) ∙ said .0, rw (c .before .before .before .before .before .room .ensures, at-scan .scan .ensures) at (c .before .before .before .lay .ensures) ∙ said .1)
+    (rw (at-scan .scan .ensures) at (c .of-cut .ensures) ∙ said .0, rw (c .before .before .before .before .before .kept .ensures, at-scan .scan .ensures) at (c .before .before .before .lay .ensures) ∙ said .1)
 
 pub gather-within-spec : {M : Type 1} → statement M
 gather-within-spec =
@@ -85,7 +85,7 @@ gather-within-spec =
     refused-requires
     returns
     scan-requires
-    room-requires
+    kept-requires
     lay-requires
     of-cut-requires
     same-length

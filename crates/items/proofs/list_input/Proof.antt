@@ -25,6 +25,9 @@ write-stop-requires c κs = search needs
 returns : tie.Need-returns
 returns c = search needs
 
+returns-2 : tie.Need-returns-2
+returns-2 c = search needs
+
 large-buffer-requires : tie.Need-large-buffer-requires
 large-buffer-requires c κs = search needs
 
@@ -52,8 +55,11 @@ part-list-piece-end c = search needs
 list-piece-requires : tie.Need-list-piece-requires
 list-piece-requires c κs = search needs
 
+returns-3 : tie.Need-returns-3
+returns-3 c = search needs
+
 slice-aggregate-list-all : tie.Need-slice-aggregate-list-all
-slice-aggregate-list-all c = front _ _ (omega (arith, inside (c .before .before .before .before .before .before .before .before)))
+slice-aggregate-list-all c = front _ _ (omega (arith, inside (c .before .before .before .before .before .before .before .before .before .before)))
 
 slice-aggregate-list-all-2 : tie.Need-slice-aggregate-list-all-2
 slice-aggregate-list-all-2 c = search needs
@@ -64,8 +70,11 @@ list-all-requires c κs = search needs
 write-end-requires : tie.Need-write-end-requires
 write-end-requires c κs = search needs
 
-returns-2 : tie.Need-returns-2
-returns-2 c = search needs
+returns-4 : tie.Need-returns-4
+returns-4 c = search needs
+
+returns-5 : tie.Need-returns-5
+returns-5 c = search needs
 
 pub list-input-spec : {M : Type 1} → statement M
 list-input-spec =
@@ -75,6 +84,7 @@ list-input-spec =
     refused-end-requires
     write-stop-requires
     returns
+    returns-2
     large-buffer-requires
     fresh-requires
     slice-aggregate-list-piece
@@ -84,8 +94,10 @@ list-input-spec =
     part-list-piece-start
     part-list-piece-end
     list-piece-requires
+    returns-3
     slice-aggregate-list-all
     slice-aggregate-list-all-2
     list-all-requires
     write-end-requires
-    returns-2)
+    returns-4
+    returns-5)

@@ -28,8 +28,14 @@ part-list-next-end c = search needs
 list-next-requires : tie.Need-list-next-requires Inv-loop μ-loop
 list-next-requires c κs = omega arith
 
+same-length : tie.Need-same-length Inv-loop μ-loop
+same-length c = search needs
+
+returns : tie.Need-returns Inv-loop μ-loop
+returns c = tt
+
 add-at : tie.Need-add-at Inv-loop μ-loop
-add-at c = omega (arith, simp (length-take, length-drop) at (c .before .before .before .before .list-next .ensures))
+add-at c = omega (arith, simp (length-take, length-drop) at (c .before .before .before .before .before .list-next .ensures))
 
 sub-turns : tie.Need-sub-turns Inv-loop μ-loop
 sub-turns c = search needs
@@ -38,19 +44,19 @@ loop-less : tie.Need-loop-less Inv-loop μ-loop
 loop-less c = search needs
 
 loop-again : tie.Need-loop-again Inv-loop μ-loop
-loop-again c = (omega (arith, simp (length-take, length-drop) at (c .before .before .before .before .list-next .ensures)), search needs)
-
-same-length : tie.Need-same-length Inv-loop μ-loop
-same-length c = search needs
-
-returns : tie.Need-returns Inv-loop μ-loop
-returns c = tt
+loop-again c = (omega (arith, simp (length-take, length-drop) at (c .before .before .before .before .before .list-next .ensures)), search needs)
 
 same-length-2 : tie.Need-same-length-2 Inv-loop μ-loop
 same-length-2 c = search needs
 
 returns-2 : tie.Need-returns-2 Inv-loop μ-loop
 returns-2 c = tt
+
+same-length-3 : tie.Need-same-length-3 Inv-loop μ-loop
+same-length-3 c = search needs
+
+returns-3 : tie.Need-returns-3 Inv-loop μ-loop
+returns-3 c = tt
 
 pub list-piece-spec : {M : Type 1} → statement M
 list-piece-spec =
@@ -63,11 +69,13 @@ list-piece-spec =
     part-list-next-start
     part-list-next-end
     list-next-requires
+    same-length
+    returns
     add-at
     sub-turns
     loop-less
     loop-again
-    same-length
-    returns
     same-length-2
-    returns-2)
+    returns-2
+    same-length-3
+    returns-3)

@@ -1,7 +1,7 @@
 -- `replay::take_all` is safe and ends: the store keeps its length, and the turns fall. Assumes nothing.
+use borrow.Author.Needs.{needs}
 use Rattle.replay.proofs.take_all.Statement.{statement}
 use Rattle.replay.proofs.take_all.Tie as tie
-use borrow.Author.Needs.{needs}
 use mathlib.Core.Path.{_≡_}
 use lib.ListN.{length}
 
@@ -17,6 +17,12 @@ loop-holds c = search needs
 take-some-requires : tie.Need-take-some-requires Inv-loop μ-loop
 take-some-requires c κs = search needs
 
+same-length : tie.Need-same-length Inv-loop μ-loop
+same-length c = search needs
+
+returns : tie.Need-returns Inv-loop μ-loop
+returns c = tt
+
 sub-turns : tie.Need-sub-turns Inv-loop μ-loop
 sub-turns c = search needs
 
@@ -25,12 +31,6 @@ loop-less c = search needs
 
 loop-again : tie.Need-loop-again Inv-loop μ-loop
 loop-again c = search needs
-
-same-length : tie.Need-same-length Inv-loop μ-loop
-same-length c = search needs
-
-returns : tie.Need-returns Inv-loop μ-loop
-returns c = tt
 
 same-length-2 : tie.Need-same-length-2 Inv-loop μ-loop
 same-length-2 c = search needs
@@ -46,10 +46,10 @@ take-all-spec =
     μ-loop
     loop-holds
     take-some-requires
+    same-length
+    returns
     sub-turns
     loop-less
     loop-again
-    same-length
-    returns
     same-length-2
     returns-2)
