@@ -1,12 +1,13 @@
 -- Document 01, "The restricted XML": the legal characters of XML 1.0, in UTF-8 to the byte and as references. Assumes nothing.
 use Prim.Native.Nat.{ℕ, zero, suc, _+_, _-_, _*_}
 use mathlib.Core.Bool.{Bool, cond, _&&_, _||_}
-use mathlib.Core.List.{List, [], _∷_}
+use mathlib.Core.List.{List}
 use lib.ListN.{length}
 use lib.Dec.{ltb, leb, eqb}
 use Rattle.message.specs.Class.{between}
 use Rattle.message.specs.Reading.{Reading, _>>=_, is, byteAt, has, one, wordAt}
 use Rattle.message.specs.Reading.Reading.{whole, refused}
+use Rattle.message.specs.Words.{codes}
 
 -- a character that has been read: where it ends, and its number
 pub record Character : Type 0 where
@@ -109,10 +110,10 @@ standsAt word c s at = do
 -- after `&`: `lt;`, `gt;`, `quot;`, `amp;` or `apos;`
 unfoldable pub predefinedAt : List ℕ → ℕ → Reading Character
 predefinedAt s at =
-    let amp-or-apos = one (is 97) s at >>= (λ i. cond (has (is 109) s i) (standsAt (109 ∷ 112 ∷ 59 ∷ []) 38 s i) (standsAt (112 ∷ 111 ∷ 115 ∷ 59 ∷ []) 39 s i)) in
-    cond (has (is 108) s at) (standsAt (108 ∷ 116 ∷ 59 ∷ []) 60 s at)
-    (cond (has (is 103) s at) (standsAt (103 ∷ 116 ∷ 59 ∷ []) 62 s at)
-    (cond (has (is 113) s at) (standsAt (113 ∷ 117 ∷ 111 ∷ 116 ∷ 59 ∷ []) 34 s at) amp-or-apos))
+    let amp-or-apos = one (is 97) s at >>= (λ i. cond (has (is 109) s i) (standsAt (codes "mp;") 38 s i) (standsAt (codes "pos;") 39 s i)) in
+    cond (has (is 108) s at) (standsAt (codes "lt;") 60 s at)
+    (cond (has (is 103) s at) (standsAt (codes "gt;") 62 s at)
+    (cond (has (is 113) s at) (standsAt (codes "quot;") 34 s at) amp-or-apos))
 
 -- from the `&` on
 unfoldable pub referenceAt : List ℕ → ℕ → Reading Character

@@ -1,53 +1,45 @@
 -- Document 01, "The restricted XML": the declaration, comments where markup may begin, and the openings of refusal 12. Assumes nothing.
 use Prim.Native.Nat.{ℕ, zero, suc, _+_}
 use mathlib.Core.Bool.{Bool, cond, _&&_, _||_}
-use mathlib.Core.List.{List, [], _∷_}
+use mathlib.Core.List.{List}
 use lib.ListN.{length}
 use Rattle.message.specs.Class.{isSpace}
 use Rattle.message.specs.Reading.{Reading, _>>=_, isWhole, is, has, one, wordAt, blanks, openedAt, closedAt}
 use Rattle.message.specs.Reading.Reading.{whole, refused}
 use Rattle.message.specs.Text.{commentAt}
+use Rattle.message.specs.Words.{codes}
 
 -- ---- the words of the declaration and of the openings
 
--- `<?xml`
 abbrev pub xml : List ℕ
-xml = 60 ∷ 63 ∷ 120 ∷ 109 ∷ 108 ∷ []
+xml = codes "<?xml"
 
--- `version`
 abbrev pub version : List ℕ
-version = 118 ∷ 101 ∷ 114 ∷ 115 ∷ 105 ∷ 111 ∷ 110 ∷ []
+version = codes "version"
 
--- `1.0`
 abbrev pub oneDotZero : List ℕ
-oneDotZero = 49 ∷ 46 ∷ 48 ∷ []
+oneDotZero = codes "1.0"
 
--- `encoding`
 abbrev pub encoding : List ℕ
-encoding = 101 ∷ 110 ∷ 99 ∷ 111 ∷ 100 ∷ 105 ∷ 110 ∷ 103 ∷ []
+encoding = codes "encoding"
 
--- `UTF-8` and `utf-8`
 abbrev pub upperUtf8 : List ℕ
-upperUtf8 = 85 ∷ 84 ∷ 70 ∷ 45 ∷ 56 ∷ []
+upperUtf8 = codes "UTF-8"
 
 abbrev pub lowerUtf8 : List ℕ
-lowerUtf8 = 117 ∷ 116 ∷ 102 ∷ 45 ∷ 56 ∷ []
+lowerUtf8 = codes "utf-8"
 
--- `?>`
 abbrev pub closing : List ℕ
-closing = 63 ∷ 62 ∷ []
+closing = codes "?>"
 
--- `DOCTYPE`
 abbrev pub doctype : List ℕ
-doctype = 68 ∷ 79 ∷ 67 ∷ 84 ∷ 89 ∷ 80 ∷ 69 ∷ []
+doctype = codes "DOCTYPE"
 
--- `[CDATA[`
 abbrev pub cdata : List ℕ
-cdata = 91 ∷ 67 ∷ 68 ∷ 65 ∷ 84 ∷ 65 ∷ 91 ∷ []
+cdata = codes "[CDATA["
 
--- `--`
 abbrev pub hyphens : List ℕ
-hyphens = 45 ∷ 45 ∷ []
+hyphens = codes "--"
 
 -- `<` and the byte b
 abbrev pub opensAt : ℕ → List ℕ → ℕ → Bool

@@ -37,7 +37,7 @@ Spelled w s p = part s p (p + length w) ≡ w
 -- end tags, one behind the other
 abbrev pub endTags : List (List ℕ) → List ℕ
 endTags [] = []
-endTags (name ∷ names) = 60 ∷ 47 ∷ (name ++ (62 ∷ endTags names))
+endTags (name ∷ names) = codes "</" ++ (name ++ (codes ">" ++ endTags names))
 
 -- made of bytes of names, and colons
 abbrev pub NameLike : List ℕ → Type 0
