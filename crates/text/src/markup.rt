@@ -10,12 +10,6 @@ ghost use Rattle.message.specs.Class.{classIn};
 ghost use Rattle.message.specs.Markup.{bangAt, aroundAt, opensAt};
 ghost use Rattle.scan.specs.Answers.{placeSaid};
 
-const DOCTYPE: [u8; 7] = [68, 79, 67, 84, 89, 80, 69];
-
-const CDATA: [u8; 7] = [91, 67, 68, 65, 84, 65, 91];
-
-const HYPHENS: [u8; 2] = [45, 45];
-
 // `<` and the byte b stand at the place.
 pub fn opens_at(s: &[u8], at: usize, b: u8) -> bool
     ensures { λ r. ⌜ r ≡ opensAt b (now (s .entry)) at ⌝ }
@@ -39,13 +33,13 @@ pub fn bang(s: &[u8], table: &[u8; 256], at: usize) -> Place
     let Place::Whole(from) = r else {
         return r;
     };
-    if words::spells(s, from, &DOCTYPE) {
+    if words::spells(s, from, b"DOCTYPE") {
         return Place::Refused(12, at);
     }
-    if words::spells(s, from, &CDATA) {
+    if words::spells(s, from, b"[CDATA[") {
         return Place::Refused(12, at);
     }
-    let r = words::word(s, from, &HYPHENS);
+    let r = words::word(s, from, b"--");
     let Place::Whole(inside) = r else {
         return r;
     };

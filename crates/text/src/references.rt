@@ -13,17 +13,6 @@ ghost use Rattle.scan.specs.Answers.{placeSaid, characterSaid};
 
 const LAST_CHARACTER: u32 = 1114111;
 
-const LT: [u8; 3] = [108, 116, 59];
-
-const GT: [u8; 3] = [103, 116, 59];
-
-const QUOT: [u8; 5] = [113, 117, 111, 116, 59];
-
-// `amp;` and `apos;` after their `a`.
-const MP: [u8; 3] = [109, 112, 59];
-
-const POS: [u8; 4] = [112, 111, 115, 59];
-
 // The number is one of a legal character.
 pub fn legal(code: u32) -> bool
     ensures { λ r. ⌜ r ≡ isLegal code ⌝ }
@@ -166,21 +155,21 @@ fn predefined(s: &[u8], at: usize) -> Character
     ensures { λ r. ⌜ characterSaid r ≡ predefinedAt (now (s .entry)) at ⌝ }
 {
     if bytes::is_at(s, at, 108) {
-        return stands(s, at, &LT, 60);
+        return stands(s, at, b"lt;", 60);
     }
     if bytes::is_at(s, at, 103) {
-        return stands(s, at, &GT, 62);
+        return stands(s, at, b"gt;", 62);
     }
     if bytes::is_at(s, at, 113) {
-        return stands(s, at, &QUOT, 34);
+        return stands(s, at, b"quot;", 34);
     }
     if !bytes::is_at(s, at, 97) {
         return Character::Refused(9, at);
     }
     if bytes::is_at(s, at + 1, 109) {
-        return stands(s, at + 1, &MP, 38);
+        return stands(s, at + 1, b"mp;", 38);
     }
-    stands(s, at + 1, &POS, 39)
+    stands(s, at + 1, b"pos;", 39)
 }
 
 // Reads a reference from its `&` on.
