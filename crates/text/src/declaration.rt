@@ -36,7 +36,7 @@ pub fn closed(s: &[u8], from: usize, to: usize) -> Place
 fn utf8(s: &[u8], at: usize) -> Place
     ensures { λ r. ⌜ placeSaid r ≡ utf8At (now (s .entry)) at ⌝ }
 {
-    if bytes::is_at(s, at, 117) {
+    if bytes::is_at(s, at, b'u') {
         words::word(s, at, b"utf-8")
     } else {
         words::word(s, at, b"UTF-8")
@@ -91,7 +91,7 @@ pub fn declaration(s: &[u8], table: &[u8; 256], at: usize) -> Place
         return r;
     };
     let end = bytes::blanks(s, table, done);
-    if bytes::is_at(s, end, 63) {
+    if bytes::is_at(s, end, b'?') {
         return words::word(s, end, b"?>");
     }
     encoding(s, table, done)

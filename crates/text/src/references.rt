@@ -46,10 +46,10 @@ fn digit(b: u8) -> u32
     requires { ⌜ isDigit 16 b ≡ true ⌝ }
     ensures { λ r. ⌜ r ≡ digitOf b ⌝ }
 {
-    if b <= 57 {
+    if b <= b'9' {
         return b as u32 - 48;
     }
-    if b <= 70 {
+    if b <= b'F' {
         return b as u32 - 55;
     }
     b as u32 - 87
@@ -60,19 +60,19 @@ fn is_digit(b: u8, base: u32) -> bool
     requires { ⌜ base ≤ 16 ⌝ }
     ensures { λ r. ⌜ r ≡ isDigit base b ⌝ }
 {
-    if b < 48 {
+    if b < b'0' {
         return false;
     }
-    if b > 102 {
+    if b > b'f' {
         return false;
     }
-    if b > 57 {
-        if b < 65 {
+    if b > b'9' {
+        if b < b'A' {
             return false;
         }
     }
-    if b > 70 {
-        if b < 97 {
+    if b > b'F' {
+        if b < b'a' {
             return false;
         }
     }
@@ -112,7 +112,7 @@ fn digits(s: &[u8], at: usize, base: u32) -> Character
 fn close(s: &[u8], at: usize, code: u32) -> Place
     ensures { λ r. ⌜ placeSaid r ≡ one (closes code) (now (s .entry)) at ⌝ }
 {
-    if bytes::is_at(s, at, 59) {
+    if bytes::is_at(s, at, b';') {
         if legal(code) {
             return Place::Whole(at + 1);
         }
@@ -154,19 +154,19 @@ fn stands(s: &[u8], at: usize, word: &[u8], code: u32) -> Character
 fn predefined(s: &[u8], at: usize) -> Character
     ensures { λ r. ⌜ characterSaid r ≡ predefinedAt (now (s .entry)) at ⌝ }
 {
-    if bytes::is_at(s, at, 108) {
+    if bytes::is_at(s, at, b'l') {
         return stands(s, at, b"lt;", 60);
     }
-    if bytes::is_at(s, at, 103) {
+    if bytes::is_at(s, at, b'g') {
         return stands(s, at, b"gt;", 62);
     }
-    if bytes::is_at(s, at, 113) {
+    if bytes::is_at(s, at, b'q') {
         return stands(s, at, b"quot;", 34);
     }
-    if !bytes::is_at(s, at, 97) {
+    if !bytes::is_at(s, at, b'a') {
         return Character::Refused(9, at);
     }
-    if bytes::is_at(s, at + 1, 109) {
+    if bytes::is_at(s, at + 1, b'm') {
         return stands(s, at + 1, b"mp;", 38);
     }
     stands(s, at + 1, b"pos;", 39)
@@ -176,13 +176,13 @@ fn predefined(s: &[u8], at: usize) -> Character
 pub fn reference(s: &[u8], at: usize) -> Character
     ensures { λ r. ⌜ characterSaid r ≡ referenceAt (now (s .entry)) at ⌝ }
 {
-    if !bytes::is_at(s, at, 38) {
+    if !bytes::is_at(s, at, b'&') {
         return Character::Refused(9, at);
     }
-    if !bytes::is_at(s, at + 1, 35) {
+    if !bytes::is_at(s, at + 1, b'#') {
         return predefined(s, at + 1);
     }
-    if bytes::is_at(s, at + 2, 120) {
+    if bytes::is_at(s, at + 2, b'x') {
         return numbered(s, at + 3, 16);
     }
     numbered(s, at + 2, 10)

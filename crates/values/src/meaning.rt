@@ -20,8 +20,8 @@ fn line_end(s: &[u8], at: usize) -> usize
     requires { ⌜ at < length (now s) ⌝ }
     ensures { λ r. ⌜ r ≡ lineEnd (now (s .entry)) at ⌝ }
 {
-    if bytes::is_at(s, at, 13) {
-        if bytes::is_at(s, at + 1, 10) {
+    if bytes::is_at(s, at, b'\r') {
+        if bytes::is_at(s, at + 1, b'\n') {
             return at + 2;
         }
     }
@@ -32,13 +32,13 @@ fn line_end(s: &[u8], at: usize) -> usize
 fn break_at(s: &[u8], at: usize) -> bool
     ensures { λ r. ⌜ r ≡ has isBreak (now (s .entry)) at ⌝ }
 {
-    if bytes::is_at(s, at, 9) {
+    if bytes::is_at(s, at, b'\t') {
         return true;
     }
-    if bytes::is_at(s, at, 10) {
+    if bytes::is_at(s, at, b'\n') {
         return true;
     }
-    bytes::is_at(s, at, 13)
+    bytes::is_at(s, at, b'\r')
 }
 
 // A character as it stands or as a reference names it.
@@ -47,7 +47,7 @@ fn letter(s: &[u8], table: &[u8; 256], at: usize) -> Character
 {
     if at < s.len() {
         let b = s[at];
-        if 1 <= bytes::class(table, b) {
+        if bytes::TEXT <= bytes::class(table, b) {
             return Character::Whole(at + 1, b as u32);
         }
     }
@@ -68,7 +68,7 @@ fn attribute_letter(s: &[u8], table: &[u8; 256], at: usize) -> Character
 fn text_letter(s: &[u8], table: &[u8; 256], at: usize) -> Character
     ensures { λ r. ⌜ characterSaid r ≡ textLetterAt (classIn (now (table .entry))) (now (s .entry)) at ⌝ }
 {
-    if bytes::is_at(s, at, 13) {
+    if bytes::is_at(s, at, b'\r') {
         return Character::Whole(line_end(s, at), 10);
     }
     letter(s, table, at)
@@ -104,7 +104,7 @@ fn content_means(s: &[u8], table: &[u8; 256], from: usize, to: usize, word: &[u8
     let mut k = 0;
     let mut i = from;
     while i < to {
-        if bytes::is_at(s, i, 60) {
+        if bytes::is_at(s, i, b'<') {
             let r = markup::bang(s, table, i);
             let Place::Whole(next) = r else {
                 return false;
