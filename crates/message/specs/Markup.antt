@@ -7,7 +7,7 @@ use Rattle.message.specs.Class.{isSpace}
 use Rattle.message.specs.Reading.{Reading, _>>=_, isWhole, is, has, one, wordAt, blanks, openedAt, closedAt}
 use Rattle.message.specs.Reading.Reading.{whole, refused}
 use Rattle.message.specs.Text.{commentAt}
-use Rattle.message.specs.Words.{codes}
+use Rattle.message.specs.Words.{char, codes}
 
 -- ---- the words of the declaration and of the openings
 
@@ -43,18 +43,18 @@ hyphens = codes "--"
 
 -- `<` and the byte b
 abbrev pub opensAt : ℕ → List ℕ → ℕ → Bool
-opensAt b s at = has (is 60) s at && has (is b) s (at + 1)
+opensAt b s at = has (is (char "<")) s at && has (is b) s (at + 1)
 
 -- the encoding's name, in capitals or in small letters
 unfoldable pub utf8At : List ℕ → ℕ → Reading ℕ
-utf8At s at = cond (has (is 117) s at) (wordAt lowerUtf8 s at) (wordAt upperUtf8 s at)
+utf8At s at = cond (has (is (char "u")) s at) (wordAt lowerUtf8 s at) (wordAt upperUtf8 s at)
 
 module _ (class : ℕ → ℕ) where
   -- From a `<!` on: a whole `<!DOCTYPE` or `<![CDATA[` is 12 at its `<`; anything else is a comment, or dead at the byte that makes it none.
   unfoldable pub bangAt : List ℕ → ℕ → Reading ℕ
   bangAt s at = do
-    i ← one (is 60) s at
-    from ← one (is 33) s i
+    i ← one (is (char "<")) s at
+    from ← one (is (char "!")) s i
     let comment = wordAt hyphens s from >>= commentAt class (length s) s in
         cond (isWhole (wordAt doctype s from) || isWhole (wordAt cdata s from)) (refused 12 at) comment
 
@@ -64,7 +64,7 @@ module _ (class : ℕ → ℕ) where
   aroundAt (suc fuel) s at =
       let stop = blanks class s at in
       let bang = bangAt s stop >>= aroundAt fuel s in
-      cond (opensAt 33 s stop) bang (cond (opensAt 63 s stop) (refused 12 stop) (whole stop))
+      cond (opensAt (char "!") s stop) bang (cond (opensAt (char "?") s stop) (refused 12 stop) (whole stop))
 
   -- ---- the declaration
 
@@ -89,4 +89,4 @@ module _ (class : ℕ → ℕ) where
     to ← wordAt oneDotZero s from
     done ← closedAt s from to
     let more = encodingAt s done in
-        cond (has (is 63) s (blanks class s done)) (wordAt closing s (blanks class s done)) more
+        cond (has (is (char "?")) s (blanks class s done)) (wordAt closing s (blanks class s done)) more

@@ -1,15 +1,18 @@
 -- The names and texts that document 01 ("The seven messages") and source document 000 (section 7.3, Tables 3 and 6) fix. Assumes nothing.
 use Prim.Native.Nat.{ℕ}
-use Prim.Native.Char.{code}
+use Prim.Native.Char.{Char, code}
 use Prim.Native.String.{String, [] as nothing, _∷_ as _then_}
 use mathlib.Core.List.{List, [], _∷_}
 use Rattle.message.specs.declared.Kind.{Kind}
 use Rattle.message.specs.declared.Kind.the-variants as kinds
 
--- the bytes of an ASCII text, in which promises write words out
+-- the byte of an ASCII character, and the bytes of an ASCII text
+abbrev pub char : Char → ℕ
+char c = code c
+
 abbrev pub codes : String → List ℕ
 codes nothing = []
-codes (c then others) = code c ∷ codes others
+codes (c then others) = char c ∷ codes others
 
 -- ---- the seven kinds, and the elements that three of them carry
 
