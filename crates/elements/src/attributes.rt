@@ -55,10 +55,10 @@ fn known(s: &[u8], starts: &[usize; 16], stops: &[usize; 16], n: usize, b: usize
 fn ends_tag(s: &[u8], at: usize) -> bool
     ensures { λ r. ⌜ r ≡ has endsTag (now (s .entry)) at ⌝ }
 {
-    if bytes::is_at(s, at, 62) {
+    if bytes::is_at(s, at, b'>') {
         true
     } else {
-        bytes::is_at(s, at, 47)
+        bytes::is_at(s, at, b'/')
     }
 }
 

@@ -49,8 +49,8 @@ fn free(s: &[u8], table: &[u8; 256], at: usize) -> Place
         let Place::Whole(stop) = r else {
             return r;
         };
-        if !bytes::is_at(s, stop + 1, 33) {
-            if bytes::is_at(s, stop + 1, 63) {
+        if !bytes::is_at(s, stop + 1, b'!') {
+            if bytes::is_at(s, stop + 1, b'?') {
                 return Place::Refused(12, stop);
             }
             return Place::Whole(stop);
@@ -67,8 +67,8 @@ fn free(s: &[u8], table: &[u8; 256], at: usize) -> Place
 fn start_end(s: &[u8], begin: usize, local: usize, e: usize, stop: usize) -> Started
     ensures { λ r. ⌜ startedSaid r ≡ startEndAt (now (s .entry)) begin (record { local = local; end = e }) stop ⌝ }
 {
-    let empty = bytes::is_at(s, stop, 47);
-    let r = bytes::byte(s, if empty { stop + 1 } else { stop }, 62);
+    let empty = bytes::is_at(s, stop, b'/');
+    let r = bytes::byte(s, if empty { stop + 1 } else { stop }, b'>');
     match r {
         Place::Whole(from) => Started::Whole(Start {
             begin,
@@ -85,7 +85,7 @@ fn start_end(s: &[u8], begin: usize, local: usize, e: usize, stop: usize) -> Sta
 fn start_tag(s: &[u8], table: &[u8; 256], at: usize) -> Started
     ensures { λ r. ⌜ startedSaid r ≡ startAt (classIn (now (table .entry))) (now (s .entry)) linkLimits at ⌝ }
 {
-    let r = bytes::byte(s, at, 60);
+    let r = bytes::byte(s, at, b'<');
     let begin = match r {
         Place::Whole(begin) => begin,
         Place::Refused(number, place) => return Started::Refused(number, place),
@@ -165,7 +165,7 @@ pub fn element(s: &[u8], table: &[u8; 256], at: usize, depth: u32) -> Told
             Place::Whole(stop) => stop,
             Place::Refused(number, place) => return Told::Refused(number, place),
         };
-        if bytes::is_at(s, stop + 1, 47) {
+        if bytes::is_at(s, stop + 1, b'/') {
             return close(s, table, start, stop, inside);
         }
         let told = element(s, table, stop, depth - 1);
@@ -181,7 +181,7 @@ pub fn element(s: &[u8], table: &[u8; 256], at: usize, depth: u32) -> Told
 fn too_deep(s: &[u8], table: &[u8; 256], at: usize) -> Told
     ensures { λ r. ⌜ toldSaid r ≡ seen (now (s .entry)) (tooDeepAt (classIn (now (table .entry))) (now (s .entry)) at) ⌝ }
 {
-    let r = bytes::byte(s, at, 60);
+    let r = bytes::byte(s, at, b'<');
     let b = match r {
         Place::Whole(b) => b,
         Place::Refused(number, place) => return Told::Refused(number, place),

@@ -21,7 +21,7 @@ ghost use Rattle.elements.specs.Seen.{seen, toldSaid};
 fn end(s: &[u8], at: usize) -> Place
     ensures { λ r. ⌜ placeSaid r ≡ endAt (now (s .entry)) at ⌝ }
 {
-    if bytes::is_at(s, at, 60) {
+    if bytes::is_at(s, at, b'<') {
         return Place::Refused(9, at + 1);
     }
     if at < s.len() {

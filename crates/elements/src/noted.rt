@@ -9,8 +9,6 @@ ghost use Rattle.message.specs.Elements.{part as partOf};
 ghost use Rattle.message.specs.Words.{advisoryType};
 ghost use Rattle.elements.specs.Seen.{nothingInside, noted as notedOf};
 
-const ADVISORY_TYPE: [u8; 12] = [65, 100, 118, 105, 115, 111, 114, 121, 84, 121, 112, 101];
-
 // How many bytes of a message of n bytes stand from b to e.
 fn span(n: usize, b: usize, e: usize) -> usize
     ensures { λ r. ⌜ r ≡ min e n - b ⌝ }
@@ -80,7 +78,7 @@ pub(crate) fn note(inside: Inside, child: Seen) -> Inside
 pub(crate) fn mark(s: &[u8], begin: usize, local: usize, e: usize) -> usize
     ensures { λ r. ⌜ r ≡ cond (sameBytes (partOf (now (s .entry)) local e) advisoryType) begin 0 ⌝ }
 {
-    if called(s, local, e, &ADVISORY_TYPE) {
+    if called(s, local, e, b"AdvisoryType") {
         begin
     } else {
         0

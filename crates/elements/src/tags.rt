@@ -61,7 +61,7 @@ fn name(s: &[u8], table: &[u8; 256], b: usize, local: usize, e: usize, at: usize
     let Place::Whole(i) = r else {
         return r;
     };
-    let r = bytes::byte(s, i, 58);
+    let r = bytes::byte(s, i, b':');
     let Place::Whole(j) = r else {
         return r;
     };
@@ -115,5 +115,5 @@ pub(crate) fn end_tag(
     let Place::Whole(i) = r else {
         return r;
     };
-    bytes::byte(s, bytes::blanks(s, table, i), 62)
+    bytes::byte(s, bytes::blanks(s, table, i), b'>')
 }

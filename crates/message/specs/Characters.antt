@@ -1,12 +1,13 @@
 -- Document 01, "The restricted XML": the legal characters of XML 1.0, in UTF-8 to the byte and as references. Assumes nothing.
 use Prim.Native.Nat.{ℕ, zero, suc, _+_, _-_, _*_}
 use mathlib.Core.Bool.{Bool, cond, _&&_, _||_}
-use mathlib.Core.List.{List, [], _∷_}
+use mathlib.Core.List.{List}
 use lib.ListN.{length}
 use lib.Dec.{ltb, leb, eqb}
 use Rattle.message.specs.Class.{between}
 use Rattle.message.specs.Reading.{Reading, _>>=_, is, byteAt, has, one, wordAt}
 use Rattle.message.specs.Reading.Reading.{whole, refused}
+use Rattle.message.specs.Words.{char, codes}
 
 -- a character that has been read: where it ends, and its number
 pub record Character : Type 0 where
@@ -70,7 +71,7 @@ longAt s at =
 -- ---- references
 
 abbrev pub hexDigit : ℕ → Bool
-hexDigit x = between 48 57 x || (between 65 70 x || between 97 102 x)
+hexDigit x = between (char "0") (char "9") x || (between (char "A") (char "F") x || between (char "a") (char "f") x)
 
 abbrev pub digitOf : ℕ → ℕ
 digitOf x = cond (leb x 57) (x - 48) (cond (leb x 70) (x - 55) (x - 87))
@@ -89,7 +90,7 @@ digitsAt (suc fuel) base n s at =
 
 -- `;` behind the number of a legal character
 abbrev pub closes : ℕ → ℕ → Bool
-closes code x = eqb x 59 && legal code
+closes code x = eqb x (char ";") && legal code
 
 -- after `&#` or `&#x`: at least one digit
 unfoldable pub numberedAt : ℕ → List ℕ → ℕ → Reading Character
@@ -108,17 +109,17 @@ standsAt word c s at = do
 -- after `&`: `lt;`, `gt;`, `quot;`, `amp;` or `apos;`
 unfoldable pub predefinedAt : List ℕ → ℕ → Reading Character
 predefinedAt s at =
-    let amp = standsAt (109 ∷ 112 ∷ 59 ∷ []) 38 s in
-    let apos = standsAt (112 ∷ 111 ∷ 115 ∷ 59 ∷ []) 39 s in
-    let amp-or-apos = one (is 97) s at >>= (λ i. cond (has (is 109) s i) (amp i) (apos i)) in
-    cond (has (is 108) s at) (standsAt (108 ∷ 116 ∷ 59 ∷ []) 60 s at)
-    (cond (has (is 103) s at) (standsAt (103 ∷ 116 ∷ 59 ∷ []) 62 s at)
-    (cond (has (is 113) s at) (standsAt (113 ∷ 117 ∷ 111 ∷ 116 ∷ 59 ∷ []) 34 s at) amp-or-apos))
+    let amp = standsAt (codes "mp;") (char "&") s in
+    let apos = standsAt (codes "pos;") (char "'") s in
+    let amp-or-apos = one (is (char "a")) s at >>= (λ i. cond (has (is (char "m")) s i) (amp i) (apos i)) in
+    cond (has (is (char "l")) s at) (standsAt (codes "lt;") (char "<") s at)
+    (cond (has (is (char "g")) s at) (standsAt (codes "gt;") (char ">") s at)
+    (cond (has (is (char "q")) s at) (standsAt (codes "quot;") (char "\"") s at) amp-or-apos))
 
 -- from the `&` on
 unfoldable pub referenceAt : List ℕ → ℕ → Reading Character
 referenceAt s at = do
-  i ← one (is 38) s at
-  cond (has (is 35) s i)
-      (cond (has (is 120) s (i + 1)) (numberedAt 16 s (i + 2)) (numberedAt 10 s (i + 1)))
+  i ← one (is (char "&")) s at
+  cond (has (is (char "#")) s i)
+      (cond (has (is (char "x")) s (i + 1)) (numberedAt 16 s (i + 2)) (numberedAt 10 s (i + 1)))
       (predefinedAt s i)

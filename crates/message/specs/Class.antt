@@ -4,17 +4,18 @@ use mathlib.Core.Bool.{Bool, cond, not, _&&_, _||_}
 use mathlib.Core.List.{List, [], _∷_}
 use lib.ListN.{getD}
 use lib.Dec.{leb, eqb}
+use Rattle.message.specs.Words.{char}
 
 abbrev pub between : ℕ → ℕ → ℕ → Bool
 between low high x = leb low x && leb x high
 
 -- an ASCII letter or an underscore
 abbrev pub nameStart : ℕ → Bool
-nameStart x = between 65 90 x || (between 97 122 x || eqb x 95)
+nameStart x = between (char "A") (char "Z") x || (between (char "a") (char "z") x || eqb x (char "_"))
 
 -- what may stand in a name but not begin one: a digit, a hyphen, a dot
 abbrev pub nameOnly : ℕ → Bool
-nameOnly x = between 48 57 x || (eqb x 45 || eqb x 46)
+nameOnly x = between (char "0") (char "9") x || (eqb x (char "-") || eqb x (char "."))
 
 -- tab, line feed, carriage return, space
 abbrev pub whiteSpace : ℕ → Bool
@@ -22,11 +23,11 @@ whiteSpace x = eqb x 9 || (eqb x 10 || (eqb x 13 || eqb x 32))
 
 -- what is a character of text by itself, beside the above: U+0021 to U+007F, but neither `<` nor `&`
 abbrev pub legalText : ℕ → Bool
-legalText x = between 33 127 x && (not (eqb x 60) && not (eqb x 38))
+legalText x = between 33 127 x && (not (eqb x (char "<")) && not (eqb x (char "&")))
 
 -- of legal text, what may begin or end something else: `]` for `]]>`, and the quotation marks
 abbrev pub marking : ℕ → Bool
-marking x = eqb x 93 || (eqb x 34 || eqb x 39)
+marking x = eqb x (char "]") || (eqb x (char "\"") || eqb x (char "'"))
 
 -- 5 name start, 4 name, 3 white space, 2 and 1 legal text (1 where it is marking), 0 none. So one comparison tells what goes on without a further look.
 unfoldable pub classOf : ℕ → ℕ
@@ -69,4 +70,4 @@ module _ (class : ℕ → ℕ) where
 
   -- the same in a comment, where `<` and `&` mean nothing and `-` may begin its end
   abbrev pub isPlainNote : ℕ → Bool
-  isPlainNote x = (isText x || (eqb x 60 || eqb x 38)) && not (eqb x 45)
+  isPlainNote x = (isText x || (eqb x (char "<") || eqb x (char "&"))) && not (eqb x (char "-"))

@@ -14,6 +14,7 @@ use Rattle.message.specs.Names.{Named, shortAt, nameAt}
 use Rattle.message.specs.Text.{textAt, valueAt}
 use Rattle.message.specs.Markup.{bangAt, aroundAt, declares, declarationAt}
 use Rattle.message.specs.Limits.{Limits}
+use Rattle.message.specs.Words.{char}
 
 -- the bytes of s from one place up to another, which is not included
 abbrev pub part : List ℕ → ℕ → ℕ → List ℕ
@@ -78,19 +79,19 @@ isKnown name (n ∷ names) = sameBytes name n || isKnown name names
 
 -- `/` or `>`
 abbrev pub endsTag : ℕ → Bool
-endsTag x = eqb x 47 || eqb x 62
+endsTag x = eqb x (char "/") || eqb x (char ">")
 
 module _ (s : List ℕ) where
   -- the end of a start tag whose name stands from b on, behind its attributes: `>`, or `/>`
   unfoldable pub startEndAt : ℕ → Named → ℕ → Reading Start
   startEndAt b n at =
-      let emptied : Reading Start = one (is 62) s (at + 1) >>= (λ i. whole (record { begin = b; name = n; from = i; empty = true })) in
-      let opened : Reading Start = one (is 62) s at >>= (λ i. whole (record { begin = b; name = n; from = i; empty = false })) in
-      cond (has (is 47) s at) emptied opened
+      let emptied : Reading Start = one (is (char ">")) s (at + 1) >>= (λ i. whole (record { begin = b; name = n; from = i; empty = true })) in
+      let opened : Reading Start = one (is (char ">")) s at >>= (λ i. whole (record { begin = b; name = n; from = i; empty = false })) in
+      cond (has (is (char "/")) s at) emptied opened
 
   -- nothing more stands at the place: a `<` there could only begin a comment, so the byte behind it is dead
   unfoldable pub endAt : ℕ → Reading ℕ
-  endAt at = cond (has (is 60) s at) (refused 9 (at + 1)) (cond (ltb at (length s)) (refused 9 at) (whole at))
+  endAt at = cond (has (is (char "<")) s at) (refused 9 (at + 1)) (cond (ltb at (length s)) (refused 9 at) (whole at))
 
 module _ (class : ℕ → ℕ) (s : List ℕ) where
   -- after an attribute's name: `=` and its value
@@ -106,12 +107,12 @@ module _ (class : ℕ → ℕ) (s : List ℕ) where
   freeAt (suc fuel) at = do
     stop ← textAt class (length s) s at
     let bang = bangAt class s stop >>= freeAt fuel in
-        cond (has (is 33) s (stop + 1)) bang (cond (has (is 63) s (stop + 1)) (refused 12 stop) (whole stop))
+        cond (has (is (char "!")) s (stop + 1)) bang (cond (has (is (char "?")) s (stop + 1)) (refused 12 stop) (whole stop))
 
   -- an element below the last level is 10 at its `<`, once a byte that begins a name follows
   unfoldable pub tooDeepAt : ℕ → Reading Element
   tooDeepAt at = do
-    b ← one (is 60) s at
+    b ← one (is (char "<")) s at
     i ← one (isStart class) s b
     refused 10 at
 
@@ -144,7 +145,7 @@ module _ (class : ℕ → ℕ) (s : List ℕ) where
 
     unfoldable pub startAt : ℕ → Reading Start
     startAt at = do
-      b ← one (is 60) s at
+      b ← one (is (char "<")) s at
       n ← nameAt class (l .part) s b
       withNameAt b n
 
@@ -160,14 +161,14 @@ module _ (class : ℕ → ℕ) (s : List ℕ) where
     -- the start tag's name again, which stands from b on
     unfoldable pub endNameAt : ℕ → Named → ℕ → Reading ℕ
     endNameAt b name at =
-        let second = endPartAt (part s b (name .local - 1)) at >>= (λ i. one (is 58) s i >>= endPartAt (part s (name .local) (name .end))) in
+        let second = endPartAt (part s b (name .local - 1)) at >>= (λ i. one (is (char ":")) s i >>= endPartAt (part s (name .local) (name .end))) in
         cond (eqb (name .local) b) (endPartAt (part s b (name .end)) at) second
 
     -- after `</`
     unfoldable pub endTagAt : ℕ → Named → ℕ → Reading ℕ
     endTagAt b name at = do
       i ← endNameAt b name at
-      one (is 62) s (blanks class s i)
+      one (is (char ">")) s (blanks class s i)
 
     -- ---- elements
 

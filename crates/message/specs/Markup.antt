@@ -1,68 +1,60 @@
 -- Document 01, "The restricted XML": the declaration, comments where markup may begin, and the openings of refusal 12. Assumes nothing.
 use Prim.Native.Nat.{ℕ, zero, suc, _+_}
 use mathlib.Core.Bool.{Bool, cond, _&&_, _||_}
-use mathlib.Core.List.{List, [], _∷_}
+use mathlib.Core.List.{List}
 use lib.ListN.{length}
 use Rattle.message.specs.Class.{isSpace}
 use Rattle.message.specs.Reading.{Reading, _>>=_, isWhole, is, has, one, wordAt, blanks, openedAt, closedAt}
 use Rattle.message.specs.Reading.Reading.{whole, refused}
 use Rattle.message.specs.Text.{commentAt}
+use Rattle.message.specs.Words.{char, codes}
 
 -- ---- the words of the declaration and of the openings
 
--- `<?xml`
 abbrev pub xml : List ℕ
-xml = 60 ∷ 63 ∷ 120 ∷ 109 ∷ 108 ∷ []
+xml = codes "<?xml"
 
--- `version`
 abbrev pub version : List ℕ
-version = 118 ∷ 101 ∷ 114 ∷ 115 ∷ 105 ∷ 111 ∷ 110 ∷ []
+version = codes "version"
 
--- `1.0`
 abbrev pub oneDotZero : List ℕ
-oneDotZero = 49 ∷ 46 ∷ 48 ∷ []
+oneDotZero = codes "1.0"
 
--- `encoding`
 abbrev pub encoding : List ℕ
-encoding = 101 ∷ 110 ∷ 99 ∷ 111 ∷ 100 ∷ 105 ∷ 110 ∷ 103 ∷ []
+encoding = codes "encoding"
 
--- `UTF-8` and `utf-8`
 abbrev pub upperUtf8 : List ℕ
-upperUtf8 = 85 ∷ 84 ∷ 70 ∷ 45 ∷ 56 ∷ []
+upperUtf8 = codes "UTF-8"
 
 abbrev pub lowerUtf8 : List ℕ
-lowerUtf8 = 117 ∷ 116 ∷ 102 ∷ 45 ∷ 56 ∷ []
+lowerUtf8 = codes "utf-8"
 
--- `?>`
 abbrev pub closing : List ℕ
-closing = 63 ∷ 62 ∷ []
+closing = codes "?>"
 
--- `DOCTYPE`
 abbrev pub doctype : List ℕ
-doctype = 68 ∷ 79 ∷ 67 ∷ 84 ∷ 89 ∷ 80 ∷ 69 ∷ []
+doctype = codes "DOCTYPE"
 
--- `[CDATA[`
 abbrev pub cdata : List ℕ
-cdata = 91 ∷ 67 ∷ 68 ∷ 65 ∷ 84 ∷ 65 ∷ 91 ∷ []
+cdata = codes "[CDATA["
 
--- `--`
 abbrev pub hyphens : List ℕ
-hyphens = 45 ∷ 45 ∷ []
+hyphens = codes "--"
 
 -- `<` and the byte b
 abbrev pub opensAt : ℕ → List ℕ → ℕ → Bool
-opensAt b s at = has (is 60) s at && has (is b) s (at + 1)
+opensAt b s at = has (is (char "<")) s at && has (is b) s (at + 1)
 
 -- the encoding's name, in capitals or in small letters
 unfoldable pub utf8At : List ℕ → ℕ → Reading ℕ
-utf8At s at = cond (has (is 117) s at) (wordAt lowerUtf8 s at) (wordAt upperUtf8 s at)
+utf8At s at = cond (has (is (char "u")) s at) (wordAt lowerUtf8 s at) (wordAt upperUtf8 s at)
 
 module _ (class : ℕ → ℕ) where
   -- From a `<!` on: a whole `<!DOCTYPE` or `<![CDATA[` is 12 at its `<`; anything else is a comment, or dead at the byte that makes it none.
   unfoldable pub bangAt : List ℕ → ℕ → Reading ℕ
   bangAt s at = do
-    i ← one (is 60) s at
-    from ← one (is 33) s i
+    i ← one (is (char "<")) s at
+    from ← one (is (char "!")) s i
     let comment = wordAt hyphens s from >>= commentAt class (length s) s in
         cond (isWhole (wordAt doctype s from) || isWhole (wordAt cdata s from)) (refused 12 at) comment
 
@@ -72,7 +64,7 @@ module _ (class : ℕ → ℕ) where
   aroundAt (suc fuel) s at =
       let stop = blanks class s at in
       let bang = bangAt s stop >>= aroundAt fuel s in
-      cond (opensAt 33 s stop) bang (cond (opensAt 63 s stop) (refused 12 stop) (whole stop))
+      cond (opensAt (char "!") s stop) bang (cond (opensAt (char "?") s stop) (refused 12 stop) (whole stop))
 
   -- ---- the declaration
 
@@ -97,4 +89,4 @@ module _ (class : ℕ → ℕ) where
     to ← wordAt oneDotZero s from
     done ← closedAt s from to
     let more = encodingAt s done in
-        cond (has (is 63) s (blanks class s done)) (wordAt closing s (blanks class s done)) more
+        cond (has (is (char "?")) s (blanks class s done)) (wordAt closing s (blanks class s done)) more

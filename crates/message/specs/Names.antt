@@ -7,6 +7,7 @@ use lib.Dec.{ltb}
 use Rattle.message.specs.Class.{isStart, isName}
 use Rattle.message.specs.Reading.{Reading, _>>=_, is, has, one, ends}
 use Rattle.message.specs.Reading.Reading.{whole, refused}
+use Rattle.message.specs.Words.{char}
 
 -- a name that has been read: where it ends, and where the part after any colon begins
 pub record Named : Type 0 where
@@ -28,4 +29,4 @@ module _ (class : ℕ → ℕ) (most : ℕ) where
   nameAt s at = do
     first ← partAt s at
     let second = partAt s (first + 1) >>= (λ last. whole (record { local = first + 1; end = last })) in
-        cond (has (is 58) s first) second (whole (record { local = at; end = first }))
+        cond (has (is (char ":")) s first) second (whole (record { local = at; end = first }))

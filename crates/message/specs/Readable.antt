@@ -10,7 +10,7 @@ use Rattle.message.specs.Class.{classOf, isName, isSpace}
 use Rattle.message.specs.Reading.{is, has, ends, blanks}
 use Rattle.message.specs.Reading.Reading.{whole}
 use Rattle.message.specs.Names.{Named, nameAt}
-use Rattle.message.specs.Words.{codes}
+use Rattle.message.specs.Words.{char, codes}
 use Rattle.message.specs.Limits.{Limits}
 use Rattle.message.specs.Elements.{part, Element, Quoted, quotedAt, documentAt}
 
@@ -37,12 +37,12 @@ Spelled w s p = part s p (p + length w) ≡ w
 -- end tags, one behind the other
 abbrev pub endTags : List (List ℕ) → List ℕ
 endTags [] = []
-endTags (name ∷ names) = 60 ∷ 47 ∷ (name ++ (62 ∷ endTags names))
+endTags (name ∷ names) = codes "</" ++ (name ++ (codes ">" ++ endTags names))
 
 -- made of bytes of names, and colons
 abbrev pub NameLike : List ℕ → Type 0
 NameLike [] = Unit {0}
-NameLike (x ∷ name) = ((isName classOf x || eqb x 58) ≡ true) × NameLike name
+NameLike (x ∷ name) = ((isName classOf x || eqb x (char ":")) ≡ true) × NameLike name
 
 abbrev pub EachNameLike : List (List ℕ) → Type 0
 EachNameLike [] = Unit {0}
@@ -78,7 +78,7 @@ AttributesStand s (suc k) from to = (last : ℕ) × AttributesStand s k from las
 
 -- a start tag from its `<` on, with its name and k attributes, stands before the place
 pub record TagStands (s : List ℕ) (at k to : ℕ) : Type 0 where
-  pub opens : has (is 60) s at ≡ true
+  pub opens : has (is (char "<")) s at ≡ true
   pub name : Named
   pub named : NameStands s (at + 1) name
   pub attributes : AttributesStand s k (name .end) to
@@ -88,11 +88,11 @@ pub record TagStands (s : List ℕ) (at k to : ℕ) : Type 0 where
 -- the first part of a name begins at the place p, in markup that begins at another: behind the `<` of a start tag, the `</` of an end tag, or the white space
 -- before an attribute
 pub data FirstPart (s : List ℕ) (at p : ℕ) : Type 0 where
-  of-start : has (is 60) s at ≡ true → p ≡ at + 1 → FirstPart s at p
-  of-end : has (is 60) s at ≡ true → has (is 47) s (at + 1) ≡ true → p ≡ at + 2 → FirstPart s at p
+  of-start : has (is (char "<")) s at ≡ true → p ≡ at + 1 → FirstPart s at p
+  of-end : has (is (char "<")) s at ≡ true → has (is (char "/")) s (at + 1) ≡ true → p ≡ at + 2 → FirstPart s at p
   of-attribute : (k to : ℕ) → TagStands s at k to → has (isSpace classOf) s to ≡ true → p ≡ blanks classOf s to → FirstPart s at p
 
 -- the first or the second, which begins behind a colon
 pub data PartStands (s : List ℕ) (at p : ℕ) : Type 0 where
   first : FirstPart s at p → PartStands s at p
-  second : (q : ℕ) → FirstPart s at q → has (is 58) s (ends (isName classOf) s q) ≡ true → p ≡ ends (isName classOf) s q + 1 → PartStands s at p
+  second : (q : ℕ) → FirstPart s at q → has (is (char ":")) s (ends (isName classOf) s q) ≡ true → p ≡ ends (isName classOf) s q + 1 → PartStands s at p

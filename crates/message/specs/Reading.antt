@@ -8,6 +8,7 @@ use mathlib.Core.List.{List, [], _∷_}
 use lib.ListN.{length, getD, drop}
 use lib.Dec.{ltb, leb, eqb}
 use Rattle.message.specs.Class.{isSpace}
+use Rattle.message.specs.Words.{char}
 
 pub data Reading (A : Type 0) : Type 0 where
   whole : A → Reading A
@@ -65,7 +66,7 @@ wordAt (x ∷ word) s at = do
 -- ---- white space, and what stands between a name and its value
 
 abbrev pub isQuote : ℕ → Bool
-isQuote x = eqb x 34 || eqb x 39
+isQuote x = eqb x (char "\"") || eqb x (char "'")
 
 module _ (class : ℕ → ℕ) where
   abbrev pub blanks : List ℕ → ℕ → ℕ
@@ -74,7 +75,7 @@ module _ (class : ℕ → ℕ) where
   -- `=` with white space around it or none
   unfoldable pub equalsAt : List ℕ → ℕ → Reading ℕ
   equalsAt s at = do
-    next ← one (is 61) s (blanks s at)
+    next ← one (is (char "=")) s (blanks s at)
     whole (blanks s next)
 
   -- `=` and a quotation mark: the place behind it, where the value begins

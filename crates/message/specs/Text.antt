@@ -6,10 +6,11 @@ use Rattle.message.specs.Class.{isText, isPlain, isPlainNote}
 use Rattle.message.specs.Reading.{Reading, _>>=_, is, has, one, ends}
 use Rattle.message.specs.Reading.Reading.{whole, refused}
 use Rattle.message.specs.Characters.{Character, longAt, referenceAt}
+use Rattle.message.specs.Words.{char}
 
 -- a reference, or a character of more than one byte
 unfoldable pub specialAt : List ℕ → ℕ → Reading Character
-specialAt s at = cond (has (is 38) s at) (referenceAt s at) (longAt s at)
+specialAt s at = cond (has (is (char "&")) s at) (referenceAt s at) (longAt s at)
 
 -- the place behind a character
 abbrev pub behind : Reading Character → Reading ℕ
@@ -17,7 +18,7 @@ behind reading = reading >>= (λ c. whole (c .end))
 
 -- a `]`, which does not begin `]]>`: that is dead at its `>`
 unfoldable pub bracketAt : List ℕ → ℕ → Reading ℕ
-bracketAt s at = cond (has (is 93) s (at + 1) && has (is 62) s (at + 2)) (refused 9 (at + 2)) (whole (at + 1))
+bracketAt s at = cond (has (is (char "]")) s (at + 1) && has (is (char ">")) s (at + 2)) (refused 9 (at + 2)) (whole (at + 1))
 
 -- what is no plain text in a value: a byte of text like any other, a reference, or a character of more than one byte
 unfoldable pub beyondPlainInAt : (ℕ → ℕ) → List ℕ → ℕ → Reading ℕ
@@ -25,14 +26,14 @@ beyondPlainInAt class s at = cond (has (isText class) s at) (whole (at + 1)) (be
 
 -- the same between tags, where a `]` must not begin `]]>`
 unfoldable pub beyondPlainAt : (ℕ → ℕ) → List ℕ → ℕ → Reading ℕ
-beyondPlainAt class s at = cond (has (is 93) s at) (bracketAt s at) (beyondPlainInAt class s at)
+beyondPlainAt class s at = cond (has (is (char "]")) s at) (bracketAt s at) (beyondPlainInAt class s at)
 
 -- what is no plain byte of a comment: a `-` by itself, or a character of more than one byte
 unfoldable pub beyondNoteAt : List ℕ → ℕ → Reading ℕ
-beyondNoteAt s at = cond (has (is 45) s at) (whole (at + 1)) (behind (longAt s at))
+beyondNoteAt s at = cond (has (is (char "-")) s at) (whole (at + 1)) (behind (longAt s at))
 
 abbrev pub hyphensAt : List ℕ → ℕ → Bool
-hyphensAt s at = has (is 45) s at && has (is 45) s (at + 1)
+hyphensAt s at = has (is (char "-")) s at && has (is (char "-")) s (at + 1)
 
 module _ (class : ℕ → ℕ) where
   -- text up to the next `<`
@@ -41,7 +42,7 @@ module _ (class : ℕ → ℕ) where
   textAt (suc fuel) s at =
       let stop = ends (isPlain class) s at in
       let more = beyondPlainAt class s stop >>= textAt fuel s in
-      cond (has (is 60) s stop) (whole stop) more
+      cond (has (is (char "<")) s stop) (whole stop) more
 
   -- an attribute's value up to the quotation mark that ends it
   unfoldable pub valueAt : ℕ → ℕ → List ℕ → ℕ → Reading ℕ
@@ -57,4 +58,4 @@ module _ (class : ℕ → ℕ) where
   commentAt (suc fuel) s at =
       let stop = ends (isPlainNote class) s at in
       let more = beyondNoteAt s stop >>= commentAt fuel s in
-      cond (hyphensAt s stop) (one (is 62) s (stop + 2)) more
+      cond (hyphensAt s stop) (one (is (char ">")) s (stop + 2)) more

@@ -10,7 +10,7 @@ use Rattle.message.specs.Reading.Reading.{whole, refused}
 use Rattle.message.specs.Characters.{Character}
 use Rattle.message.specs.Text.{specialAt}
 use Rattle.message.specs.Markup.{bangAt}
-use Rattle.message.specs.Words.{okStatus, redundantStatus, unreadableMessage}
+use Rattle.message.specs.Words.{char, okStatus, redundantStatus, unreadableMessage}
 use Rattle.message.specs.declared.Number.{Number}
 use Rattle.message.specs.declared.Number.the-variants.{Nothing, Names}
 use Rattle.message.specs.declared.Status.{Status}
@@ -52,7 +52,7 @@ module _ (class : ℕ → ℕ) (s : List ℕ) where
   contentMeaning (suc fuel) to at =
       let others = textLetterAt at >>= (λ c. contentMeaning fuel to (c .end) >>= (λ codes. whole (c .code ∷ codes))) in
       let behind = bangAt class s at >>= contentMeaning fuel to in
-      cond (ltb at to) (cond (has (is 60) s at) behind others) (whole [])
+      cond (ltb at to) (cond (has (is (char "<")) s at) behind others) (whole [])
 
 -- ---- what they name
 
@@ -64,7 +64,7 @@ means word (refused number place) = false
 unfoldable pub decimalFrom : ℕ → List ℕ → Number
 decimalFrom n [] = Names n
 decimalFrom n (d ∷ digits) =
-    cond (between 48 57 d && leb (n * 10 + (d - 48)) 4294967295) (decimalFrom (n * 10 + (d - 48)) digits) Nothing
+    cond (between (char "0") (char "9") d && leb (n * 10 + (d - char "0")) 4294967295) (decimalFrom (n * 10 + (d - char "0")) digits) Nothing
 
 abbrev pub numberFrom : ℕ → Reading (List ℕ) → Number
 numberFrom n (whole codes) = decimalFrom n codes
@@ -74,7 +74,7 @@ numberFrom n (refused number place) = Nothing
 abbrev pub leadingZero : List ℕ → Bool
 leadingZero [] = false
 leadingZero (d ∷ []) = false
-leadingZero (d ∷ e ∷ digits) = eqb d 48
+leadingZero (d ∷ e ∷ digits) = eqb d (char "0")
 
 unfoldable pub decimalOf : List ℕ → Number
 decimalOf [] = Nothing

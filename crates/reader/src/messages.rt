@@ -38,38 +38,6 @@ ghost use Rattle.elements.specs.Held.{spanSaid};
 ghost use Rattle.reader.specs.Roots.{nameCalled, onlyCalled, nameEnd, kindNamed, kindSaid, Tells, TellsType, adviceSeen};
 ghost use Rattle.message.specs.declared.Kind.the-variants.{SessionOpenResponse, SessionOk, Ok, Advisory, Request, Response};
 
-// `QueryRequest`
-const QUERY_REQUEST: [u8; 12] = [81, 117, 101, 114, 121, 82, 101, 113, 117, 101, 115, 116];
-
-// `QueryResponse`
-const QUERY_RESPONSE: [u8; 13] = [
-    81,
-    117,
-    101,
-    114,
-    121,
-    82,
-    101,
-    115,
-    112,
-    111,
-    110,
-    115,
-    101,
-];
-
-// `status`
-const STATUS: [u8; 6] = [115, 116, 97, 116, 117, 115];
-
-// `ID`
-const ID: [u8; 2] = [73, 68];
-
-// `inResponseTo`
-const IN_RESPONSE_TO: [u8; 12] = [105, 110, 82, 101, 115, 112, 111, 110, 115, 101, 84, 111];
-
-// `inRelationTo`
-const IN_RELATION_TO: [u8; 12] = [105, 110, 82, 101, 108, 97, 116, 105, 111, 110, 84, 111];
-
 // Looks for the first attribute of a start tag that is called `word`, from behind the tag's name on.
 fn attribute(s: &[u8], table: &[u8; 256], at: usize, word: &[u8]) -> Span
     ensures { λ r. ⌜ spanSaid r ≡ attributeCalled (classIn (now (table .entry))) linkLimits (now (s .entry)) (lengthOf (now (s .entry))) (now (word .entry)) at ⌝ }
@@ -240,7 +208,7 @@ fn name_end(s: &[u8], table: &[u8; 256], begin: usize) -> usize
 fn session_open_response(s: &[u8], table: &[u8; 256], root: Seen) -> Answer
     ensures { λ r. ⌜ Tells (classIn (now (table .entry))) (now (s .entry)) root SessionOpenResponse r ⌝ }
 {
-    let value = attribute(s, table, name_end(s, table, root.begin), &STATUS);
+    let value = attribute(s, table, name_end(s, table, root.begin), b"status");
     if !is_there(value) {
         return Answer::Refused(13, 0);
     }
@@ -271,7 +239,7 @@ fn numbers(kind: Kind, id: NumberValue, in_response_to: NumberValue) -> Answer
 fn session_ok(s: &[u8], table: &[u8; 256], root: Seen) -> Answer
     ensures { λ r. ⌜ Tells (classIn (now (table .entry))) (now (s .entry)) root SessionOk r ⌝ }
 {
-    let value = attribute(s, table, name_end(s, table, root.begin), &ID);
+    let value = attribute(s, table, name_end(s, table, root.begin), b"ID");
     if !is_there(value) {
         return Answer::Refused(13, 0);
     }
@@ -281,7 +249,7 @@ fn session_ok(s: &[u8], table: &[u8; 256], root: Seen) -> Answer
 fn ok(s: &[u8], table: &[u8; 256], root: Seen) -> Answer
     ensures { λ r. ⌜ Tells (classIn (now (table .entry))) (now (s .entry)) root Ok r ⌝ }
 {
-    let value = attribute(s, table, name_end(s, table, root.begin), &IN_RESPONSE_TO);
+    let value = attribute(s, table, name_end(s, table, root.begin), b"inResponseTo");
     if !is_there(value) {
         return Answer::Refused(13, 0);
     }
@@ -291,7 +259,7 @@ fn ok(s: &[u8], table: &[u8; 256], root: Seen) -> Answer
 fn advisory(s: &[u8], table: &[u8; 256], root: Seen) -> Answer
     ensures { λ r. ⌜ Tells (classIn (now (table .entry))) (now (s .entry)) root Advisory r ⌝ }
 {
-    let child = only_child(s, table, root.inside, &kinds::ADVISORY);
+    let child = only_child(s, table, root.inside, b"Advisory");
     let e = match child {
         Place::Whole(e) => e,
         Place::Refused(number, place) => return Answer::Refused(number, place),
@@ -300,7 +268,7 @@ fn advisory(s: &[u8], table: &[u8; 256], root: Seen) -> Answer
     if typed == 0 {
         return Answer::Refused(13, 0);
     }
-    let value = attribute(s, table, e, &IN_RELATION_TO);
+    let value = attribute(s, table, e, b"inRelationTo");
     Answer::Read(Message {
         kind: Kind::Advisory,
         status: no_status(),
@@ -314,12 +282,12 @@ fn advisory(s: &[u8], table: &[u8; 256], root: Seen) -> Answer
 fn request(s: &[u8], table: &[u8; 256], root: Seen) -> Answer
     ensures { λ r. ⌜ Tells (classIn (now (table .entry))) (now (s .entry)) root Request r ⌝ }
 {
-    let child = only_child(s, table, root.inside, &QUERY_REQUEST);
+    let child = only_child(s, table, root.inside, b"QueryRequest");
     let e = match child {
         Place::Whole(e) => e,
         Place::Refused(number, place) => return Answer::Refused(number, place),
     };
-    let value = attribute(s, table, e, &ID);
+    let value = attribute(s, table, e, b"ID");
     if !is_there(value) {
         return Answer::Refused(13, 0);
     }
@@ -329,12 +297,12 @@ fn request(s: &[u8], table: &[u8; 256], root: Seen) -> Answer
 fn response(s: &[u8], table: &[u8; 256], root: Seen) -> Answer
     ensures { λ r. ⌜ Tells (classIn (now (table .entry))) (now (s .entry)) root Response r ⌝ }
 {
-    let child = only_child(s, table, root.inside, &QUERY_RESPONSE);
+    let child = only_child(s, table, root.inside, b"QueryResponse");
     let e = match child {
         Place::Whole(e) => e,
         Place::Refused(number, place) => return Answer::Refused(number, place),
     };
-    let value = attribute(s, table, e, &IN_RESPONSE_TO);
+    let value = attribute(s, table, e, b"inResponseTo");
     numbers(Kind::Response, no_number(), number_value(s, table, value))
 }
 

@@ -5,6 +5,17 @@ ghost use Rattle.message.specs.Class.{classIn, isStart, atLeast, isName, isSpac
 ghost use Rattle.message.specs.Reading.{is, has, one, ends, upTo, blanks as blanksAt, equalsAt, openedAt, isQuote};
 ghost use Rattle.scan.specs.Answers.{placeSaid};
 
+// The classes, from the one that the fewest bytes have: a byte that may begin a name may stand in one too, and every class here is text.
+pub const NAME_START: u8 = 5;
+
+pub const NAME: u8 = 4;
+
+pub const SPACE: u8 = 3;
+
+pub const PLAIN: u8 = 2;
+
+pub const TEXT: u8 = 1;
+
 // The class that a table gives to a byte.
 pub fn class(table: &[u8; 256], b: u8) -> u8
     ensures { λ r. ⌜ r ≡ classIn (now (table .entry)) b ⌝ }
@@ -24,7 +35,7 @@ pub fn start_at(s: &[u8], table: &[u8; 256], at: usize) -> bool
     ensures { λ r. ⌜ r ≡ has (isStart (classIn (now (table .entry)))) (now (s .entry)) at ⌝ }
 {
     if at < s.len() {
-        class(table, s[at]) == 5
+        class(table, s[at]) == NAME_START
     } else {
         false
     }
@@ -46,7 +57,7 @@ pub fn space_at(s: &[u8], table: &[u8; 256], at: usize) -> bool
     ensures { λ r. ⌜ r ≡ has (isSpace (classIn (now (table .entry)))) (now (s .entry)) at ⌝ }
 {
     if at < s.len() {
-        class(table, s[at]) == 3
+        class(table, s[at]) == SPACE
     } else {
         false
     }
@@ -89,10 +100,10 @@ pub fn space(s: &[u8], table: &[u8; 256], at: usize) -> Place
 pub fn quote(s: &[u8], at: usize) -> Place
     ensures { λ r. ⌜ placeSaid r ≡ one isQuote (now (s .entry)) at ⌝ }
 {
-    if is_at(s, at, 34) {
+    if is_at(s, at, b'"') {
         return Place::Whole(at + 1);
     }
-    byte(s, at, 39)
+    byte(s, at, b'\'')
 }
 
 // How many bytes of a class of at least `least` stand from a place on, of at most three, where no four are left.
@@ -155,7 +166,7 @@ pub fn name_end(s: &[u8], table: &[u8; 256], at: usize) -> usize
     ensures { λ r. ⌜ r ≡ ends (isName (classIn (now (table .entry)))) (now (s .entry)) at ⌝ }
 {
     let mut i = at;
-    while least_at(s, table, i, 4) {
+    while least_at(s, table, i, NAME) {
         i += 1;
     }
     i
@@ -176,7 +187,7 @@ pub fn blanks(s: &[u8], table: &[u8; 256], at: usize) -> usize
 pub fn equals(s: &[u8], table: &[u8; 256], at: usize) -> Place
     ensures { λ r. ⌜ placeSaid r ≡ equalsAt (classIn (now (table .entry))) (now (s .entry)) at ⌝ }
 {
-    let r = byte(s, blanks(s, table, at), 61);
+    let r = byte(s, blanks(s, table, at), b'=');
     let Place::Whole(next) = r else {
         return r;
     };

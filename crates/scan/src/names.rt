@@ -38,7 +38,7 @@ pub fn name(s: &[u8], table: &[u8; 256], at: usize, most: usize) -> Name
         Place::Whole(first) => first,
         Place::Refused(number, place) => return Name::Refused(number, place),
     };
-    if !bytes::is_at(s, first, 58) {
+    if !bytes::is_at(s, first, b':') {
         return Name::Whole(at, first);
     }
     let r = part(s, table, first + 1, most);

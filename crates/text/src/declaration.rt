@@ -8,25 +8,11 @@ ghost use Rattle.message.specs.Reading.{closedAt};
 ghost use Rattle.message.specs.Markup.{declares as declaresIt, utf8At, encodingAt, declarationAt};
 ghost use Rattle.scan.specs.Answers.{placeSaid};
 
-const XML: [u8; 5] = [60, 63, 120, 109, 108];
-
-const VERSION: [u8; 7] = [118, 101, 114, 115, 105, 111, 110];
-
-const ONE_DOT_ZERO: [u8; 3] = [49, 46, 48];
-
-const ENCODING: [u8; 8] = [101, 110, 99, 111, 100, 105, 110, 103];
-
-const UPPER_UTF8: [u8; 5] = [85, 84, 70, 45, 56];
-
-const LOWER_UTF8: [u8; 5] = [117, 116, 102, 45, 56];
-
-const CLOSING: [u8; 2] = [63, 62];
-
 // The message begins with `<?xml` and white space.
 pub fn declares(s: &[u8], table: &[u8; 256]) -> bool
     ensures { λ r. ⌜ r ≡ declaresIt (classIn (now (table .entry))) (now (s .entry)) ⌝ }
 {
-    if words::spells(s, 0, &XML) {
+    if words::spells(s, 0, b"<?xml") {
         bytes::space_at(s, table, 5)
     } else {
         false
@@ -50,10 +36,10 @@ pub fn closed(s: &[u8], from: usize, to: usize) -> Place
 fn utf8(s: &[u8], at: usize) -> Place
     ensures { λ r. ⌜ placeSaid r ≡ utf8At (now (s .entry)) at ⌝ }
 {
-    if bytes::is_at(s, at, 117) {
-        words::word(s, at, &LOWER_UTF8)
+    if bytes::is_at(s, at, b'u') {
+        words::word(s, at, b"utf-8")
     } else {
-        words::word(s, at, &UPPER_UTF8)
+        words::word(s, at, b"UTF-8")
     }
 }
 
@@ -65,7 +51,7 @@ fn encoding(s: &[u8], table: &[u8; 256], at: usize) -> Place
     let Place::Whole(_) = r else {
         return r;
     };
-    let r = words::word(s, bytes::blanks(s, table, at), &ENCODING);
+    let r = words::word(s, bytes::blanks(s, table, at), b"encoding");
     let Place::Whole(named) = r else {
         return r;
     };
@@ -81,14 +67,14 @@ fn encoding(s: &[u8], table: &[u8; 256], at: usize) -> Place
     let Place::Whole(done) = r else {
         return r;
     };
-    words::word(s, bytes::blanks(s, table, done), &CLOSING)
+    words::word(s, bytes::blanks(s, table, done), b"?>")
 }
 
 // Reads the declaration from behind its `<?xml` on.
 pub fn declaration(s: &[u8], table: &[u8; 256], at: usize) -> Place
     ensures { λ r. ⌜ placeSaid r ≡ declarationAt (classIn (now (table .entry))) (now (s .entry)) at ⌝ }
 {
-    let r = words::word(s, bytes::blanks(s, table, at), &VERSION);
+    let r = words::word(s, bytes::blanks(s, table, at), b"version");
     let Place::Whole(named) = r else {
         return r;
     };
@@ -96,7 +82,7 @@ pub fn declaration(s: &[u8], table: &[u8; 256], at: usize) -> Place
     let Place::Whole(from) = r else {
         return r;
     };
-    let r = words::word(s, from, &ONE_DOT_ZERO);
+    let r = words::word(s, from, b"1.0");
     let Place::Whole(to) = r else {
         return r;
     };
@@ -105,8 +91,8 @@ pub fn declaration(s: &[u8], table: &[u8; 256], at: usize) -> Place
         return r;
     };
     let end = bytes::blanks(s, table, done);
-    if bytes::is_at(s, end, 63) {
-        return words::word(s, end, &CLOSING);
+    if bytes::is_at(s, end, b'?') {
+        return words::word(s, end, b"?>");
     }
     encoding(s, table, done)
 }

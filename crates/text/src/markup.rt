@@ -10,17 +10,11 @@ ghost use Rattle.message.specs.Class.{classIn};
 ghost use Rattle.message.specs.Markup.{bangAt, aroundAt, opensAt};
 ghost use Rattle.scan.specs.Answers.{placeSaid};
 
-const DOCTYPE: [u8; 7] = [68, 79, 67, 84, 89, 80, 69];
-
-const CDATA: [u8; 7] = [91, 67, 68, 65, 84, 65, 91];
-
-const HYPHENS: [u8; 2] = [45, 45];
-
 // `<` and the byte b stand at the place.
 pub fn opens_at(s: &[u8], at: usize, b: u8) -> bool
     ensures { λ r. ⌜ r ≡ opensAt b (now (s .entry)) at ⌝ }
 {
-    if bytes::is_at(s, at, 60) {
+    if bytes::is_at(s, at, b'<') {
         bytes::is_at(s, at + 1, b)
     } else {
         false
@@ -31,21 +25,21 @@ pub fn opens_at(s: &[u8], at: usize, b: u8) -> bool
 pub fn bang(s: &[u8], table: &[u8; 256], at: usize) -> Place
     ensures { λ r. ⌜ placeSaid r ≡ bangAt (classIn (now (table .entry))) (now (s .entry)) at ⌝ }
 {
-    let r = bytes::byte(s, at, 60);
+    let r = bytes::byte(s, at, b'<');
     let Place::Whole(i) = r else {
         return r;
     };
-    let r = bytes::byte(s, i, 33);
+    let r = bytes::byte(s, i, b'!');
     let Place::Whole(from) = r else {
         return r;
     };
-    if words::spells(s, from, &DOCTYPE) {
+    if words::spells(s, from, b"DOCTYPE") {
         return Place::Refused(12, at);
     }
-    if words::spells(s, from, &CDATA) {
+    if words::spells(s, from, b"[CDATA[") {
         return Place::Refused(12, at);
     }
-    let r = words::word(s, from, &HYPHENS);
+    let r = words::word(s, from, b"--");
     let Place::Whole(inside) = r else {
         return r;
     };
@@ -57,14 +51,14 @@ pub fn around(s: &[u8], table: &[u8; 256], at: usize) -> Place
     ensures { λ r. ⌜ placeSaid r ≡ aroundAt (classIn (now (table .entry))) (suc (length (now (s .entry)))) (now (s .entry)) at ⌝ }
 {
     let mut i = bytes::blanks(s, table, at);
-    while opens_at(s, i, 33) {
+    while opens_at(s, i, b'!') {
         let r = bang(s, table, i);
         let Place::Whole(next) = r else {
             return r;
         };
         i = bytes::blanks(s, table, next);
     }
-    if opens_at(s, i, 63) {
+    if opens_at(s, i, b'?') {
         return Place::Refused(12, i);
     }
     Place::Whole(i)

@@ -13,17 +13,6 @@ ghost use Rattle.scan.specs.Answers.{placeSaid, characterSaid};
 
 const LAST_CHARACTER: u32 = 1114111;
 
-const LT: [u8; 3] = [108, 116, 59];
-
-const GT: [u8; 3] = [103, 116, 59];
-
-const QUOT: [u8; 5] = [113, 117, 111, 116, 59];
-
-// `amp;` and `apos;` after their `a`.
-const MP: [u8; 3] = [109, 112, 59];
-
-const POS: [u8; 4] = [112, 111, 115, 59];
-
 // The number is one of a legal character.
 pub fn legal(code: u32) -> bool
     ensures { λ r. ⌜ r ≡ isLegal code ⌝ }
@@ -57,10 +46,10 @@ fn digit(b: u8) -> u32
     requires { ⌜ isDigit 16 b ≡ true ⌝ }
     ensures { λ r. ⌜ r ≡ digitOf b ⌝ }
 {
-    if b <= 57 {
+    if b <= b'9' {
         return b as u32 - 48;
     }
-    if b <= 70 {
+    if b <= b'F' {
         return b as u32 - 55;
     }
     b as u32 - 87
@@ -71,19 +60,19 @@ fn is_digit(b: u8, base: u32) -> bool
     requires { ⌜ base ≤ 16 ⌝ }
     ensures { λ r. ⌜ r ≡ isDigit base b ⌝ }
 {
-    if b < 48 {
+    if b < b'0' {
         return false;
     }
-    if b > 102 {
+    if b > b'f' {
         return false;
     }
-    if b > 57 {
-        if b < 65 {
+    if b > b'9' {
+        if b < b'A' {
             return false;
         }
     }
-    if b > 70 {
-        if b < 97 {
+    if b > b'F' {
+        if b < b'a' {
             return false;
         }
     }
@@ -123,7 +112,7 @@ fn digits(s: &[u8], at: usize, base: u32) -> Character
 fn close(s: &[u8], at: usize, code: u32) -> Place
     ensures { λ r. ⌜ placeSaid r ≡ one (closes code) (now (s .entry)) at ⌝ }
 {
-    if bytes::is_at(s, at, 59) {
+    if bytes::is_at(s, at, b';') {
         if legal(code) {
             return Place::Whole(at + 1);
         }
@@ -165,35 +154,35 @@ fn stands(s: &[u8], at: usize, word: &[u8], code: u32) -> Character
 fn predefined(s: &[u8], at: usize) -> Character
     ensures { λ r. ⌜ characterSaid r ≡ predefinedAt (now (s .entry)) at ⌝ }
 {
-    if bytes::is_at(s, at, 108) {
-        return stands(s, at, &LT, 60);
+    if bytes::is_at(s, at, b'l') {
+        return stands(s, at, b"lt;", 60);
     }
-    if bytes::is_at(s, at, 103) {
-        return stands(s, at, &GT, 62);
+    if bytes::is_at(s, at, b'g') {
+        return stands(s, at, b"gt;", 62);
     }
-    if bytes::is_at(s, at, 113) {
-        return stands(s, at, &QUOT, 34);
+    if bytes::is_at(s, at, b'q') {
+        return stands(s, at, b"quot;", 34);
     }
-    if !bytes::is_at(s, at, 97) {
+    if !bytes::is_at(s, at, b'a') {
         return Character::Refused(9, at);
     }
-    if bytes::is_at(s, at + 1, 109) {
-        return stands(s, at + 1, &MP, 38);
+    if bytes::is_at(s, at + 1, b'm') {
+        return stands(s, at + 1, b"mp;", 38);
     }
-    stands(s, at + 1, &POS, 39)
+    stands(s, at + 1, b"pos;", 39)
 }
 
 // Reads a reference from its `&` on.
 pub fn reference(s: &[u8], at: usize) -> Character
     ensures { λ r. ⌜ characterSaid r ≡ referenceAt (now (s .entry)) at ⌝ }
 {
-    if !bytes::is_at(s, at, 38) {
+    if !bytes::is_at(s, at, b'&') {
         return Character::Refused(9, at);
     }
-    if !bytes::is_at(s, at + 1, 35) {
+    if !bytes::is_at(s, at + 1, b'#') {
         return predefined(s, at + 1);
     }
-    if bytes::is_at(s, at + 2, 120) {
+    if bytes::is_at(s, at + 2, b'x') {
         return numbered(s, at + 3, 16);
     }
     numbered(s, at + 2, 10)

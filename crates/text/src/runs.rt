@@ -16,14 +16,14 @@ ghost use Rattle.scan.specs.Answers.{placeSaid, characterSaid};
 fn plain_note(table: &[u8; 256], b: u8) -> bool
     ensures { λ r. ⌜ r ≡ isPlainNote (classIn (now (table .entry))) b ⌝ }
 {
-    if b == 60 {
+    if b == b'<' {
         return true;
     }
-    if b == 38 {
+    if b == b'&' {
         return true;
     }
-    if 1 <= bytes::class(table, b) {
-        b != 45
+    if bytes::TEXT <= bytes::class(table, b) {
+        b != b'-'
     } else {
         false
     }
@@ -43,7 +43,7 @@ fn plain_note_at(s: &[u8], table: &[u8; 256], at: usize) -> bool
 pub fn plain_end(s: &[u8], table: &[u8; 256], at: usize) -> usize
     ensures { λ r. ⌜ r ≡ ends (isPlain (classIn (now (table .entry)))) (now (s .entry)) at ⌝ }
 {
-    bytes::run_end(s, table, at, 2)
+    bytes::run_end(s, table, at, bytes::PLAIN)
 }
 
 // The same in a comment.
@@ -61,7 +61,7 @@ pub fn plain_note_end(s: &[u8], table: &[u8; 256], at: usize) -> usize
 pub fn special(s: &[u8], at: usize) -> Character
     ensures { λ r. ⌜ characterSaid r ≡ specialAt (now (s .entry)) at ⌝ }
 {
-    if bytes::is_at(s, at, 38) {
+    if bytes::is_at(s, at, b'&') {
         return references::reference(s, at);
     }
     characters::long(s, at)
@@ -72,8 +72,8 @@ fn bracket(s: &[u8], at: usize) -> Place
     requires { ⌜ has (is 93) (now s) at ≡ true ⌝ }
     ensures { λ r. ⌜ placeSaid r ≡ bracketAt (now (s .entry)) at ⌝ }
 {
-    if bytes::is_at(s, at + 1, 93) {
-        if bytes::is_at(s, at + 2, 62) {
+    if bytes::is_at(s, at + 1, b']') {
+        if bytes::is_at(s, at + 2, b'>') {
             return Place::Refused(9, at + 2);
         }
     }
@@ -84,10 +84,10 @@ fn bracket(s: &[u8], at: usize) -> Place
 fn beyond_plain_in(s: &[u8], table: &[u8; 256], at: usize) -> Place
     ensures { λ r. ⌜ placeSaid r ≡ beyondPlainInAt (classIn (now (table .entry))) (now (s .entry)) at ⌝ }
 {
-    if bytes::least_at(s, table, at, 1) {
+    if bytes::least_at(s, table, at, bytes::TEXT) {
         return Place::Whole(at + 1);
     }
-    if bytes::is_at(s, at, 38) {
+    if bytes::is_at(s, at, b'&') {
         return behind(references::reference(s, at));
     }
     behind(characters::long(s, at))
@@ -107,7 +107,7 @@ fn behind(c: Character) -> Place
 fn beyond_plain(s: &[u8], table: &[u8; 256], at: usize) -> Place
     ensures { λ r. ⌜ placeSaid r ≡ beyondPlainAt (classIn (now (table .entry))) (now (s .entry)) at ⌝ }
 {
-    if bytes::is_at(s, at, 93) {
+    if bytes::is_at(s, at, b']') {
         return bracket(s, at);
     }
     beyond_plain_in(s, table, at)
@@ -118,7 +118,7 @@ pub fn text(s: &[u8], table: &[u8; 256], at: usize) -> Place
     ensures { λ r. ⌜ placeSaid r ≡ textAt (classIn (now (table .entry))) (length (now (s .entry))) (now (s .entry)) at ⌝ }
 {
     let mut i = plain_end(s, table, at);
-    while !bytes::is_at(s, i, 60) {
+    while !bytes::is_at(s, i, b'<') {
         let r = beyond_plain(s, table, i);
         let Place::Whole(next) = r else {
             return r;
@@ -147,7 +147,7 @@ pub fn value(s: &[u8], table: &[u8; 256], at: usize, quote: u8) -> Place
 fn beyond_note(s: &[u8], at: usize) -> Place
     ensures { λ r. ⌜ placeSaid r ≡ beyondNoteAt (now (s .entry)) at ⌝ }
 {
-    if bytes::is_at(s, at, 45) {
+    if bytes::is_at(s, at, b'-') {
         return Place::Whole(at + 1);
     }
     let r = characters::long(s, at);
@@ -169,15 +169,15 @@ pub fn comment(s: &[u8], table: &[u8; 256], at: usize) -> Place
         };
         i = plain_note_end(s, table, next);
     }
-    bytes::byte(s, i + 2, 62)
+    bytes::byte(s, i + 2, b'>')
 }
 
 // `--` stands at the place.
 fn hyphens_at(s: &[u8], at: usize) -> bool
     ensures { λ r. ⌜ r ≡ hyphensAt (now (s .entry)) at ⌝ }
 {
-    if bytes::is_at(s, at, 45) {
-        bytes::is_at(s, at + 1, 45)
+    if bytes::is_at(s, at, b'-') {
+        bytes::is_at(s, at + 1, b'-')
     } else {
         false
     }

@@ -15,165 +15,13 @@ ghost use Rattle.message.specs.Reading.{has};
 ghost use Rattle.scan.specs.Answers.{characterSaid};
 ghost use Rattle.message.specs.Values.{lineEnd, isBreak, letterAt, attributeLetterAt, textLetterAt, attributeMeaning, contentMeaning, means, numberFrom, numberOf, statusOf, adviceOf};
 
-// `urn:nena-org:dtc:aqstcp:status:Ok`
-const OK_STATUS: [u8; 33] = [
-    117,
-    114,
-    110,
-    58,
-    110,
-    101,
-    110,
-    97,
-    45,
-    111,
-    114,
-    103,
-    58,
-    100,
-    116,
-    99,
-    58,
-    97,
-    113,
-    115,
-    116,
-    99,
-    112,
-    58,
-    115,
-    116,
-    97,
-    116,
-    117,
-    115,
-    58,
-    79,
-    107,
-];
-
-// `urn:nena-org:dtc:aqstcp:status:RedundantSession`
-const REDUNDANT_STATUS: [u8; 47] = [
-    117,
-    114,
-    110,
-    58,
-    110,
-    101,
-    110,
-    97,
-    45,
-    111,
-    114,
-    103,
-    58,
-    100,
-    116,
-    99,
-    58,
-    97,
-    113,
-    115,
-    116,
-    99,
-    112,
-    58,
-    115,
-    116,
-    97,
-    116,
-    117,
-    115,
-    58,
-    82,
-    101,
-    100,
-    117,
-    110,
-    100,
-    97,
-    110,
-    116,
-    83,
-    101,
-    115,
-    115,
-    105,
-    111,
-    110,
-];
-
-// `urn:nena-org:dtc:aqs:notif:advisory:appl-x:UnreadableMessage`
-const UNREADABLE_MESSAGE: [u8; 60] = [
-    117,
-    114,
-    110,
-    58,
-    110,
-    101,
-    110,
-    97,
-    45,
-    111,
-    114,
-    103,
-    58,
-    100,
-    116,
-    99,
-    58,
-    97,
-    113,
-    115,
-    58,
-    110,
-    111,
-    116,
-    105,
-    102,
-    58,
-    97,
-    100,
-    118,
-    105,
-    115,
-    111,
-    114,
-    121,
-    58,
-    97,
-    112,
-    112,
-    108,
-    45,
-    120,
-    58,
-    85,
-    110,
-    114,
-    101,
-    97,
-    100,
-    97,
-    98,
-    108,
-    101,
-    77,
-    101,
-    115,
-    115,
-    97,
-    103,
-    101,
-];
-
 // The place behind the line end that begins at the place.
 fn line_end(s: &[u8], at: usize) -> usize
     requires { ⌜ at < length (now s) ⌝ }
     ensures { λ r. ⌜ r ≡ lineEnd (now (s .entry)) at ⌝ }
 {
-    if bytes::is_at(s, at, 13) {
-        if bytes::is_at(s, at + 1, 10) {
+    if bytes::is_at(s, at, b'\r') {
+        if bytes::is_at(s, at + 1, b'\n') {
             return at + 2;
         }
     }
@@ -184,13 +32,13 @@ fn line_end(s: &[u8], at: usize) -> usize
 fn break_at(s: &[u8], at: usize) -> bool
     ensures { λ r. ⌜ r ≡ has isBreak (now (s .entry)) at ⌝ }
 {
-    if bytes::is_at(s, at, 9) {
+    if bytes::is_at(s, at, b'\t') {
         return true;
     }
-    if bytes::is_at(s, at, 10) {
+    if bytes::is_at(s, at, b'\n') {
         return true;
     }
-    bytes::is_at(s, at, 13)
+    bytes::is_at(s, at, b'\r')
 }
 
 // A character as it stands or as a reference names it.
@@ -199,7 +47,7 @@ fn letter(s: &[u8], table: &[u8; 256], at: usize) -> Character
 {
     if at < s.len() {
         let b = s[at];
-        if 1 <= bytes::class(table, b) {
+        if bytes::TEXT <= bytes::class(table, b) {
             return Character::Whole(at + 1, b as u32);
         }
     }
@@ -220,7 +68,7 @@ fn attribute_letter(s: &[u8], table: &[u8; 256], at: usize) -> Character
 fn text_letter(s: &[u8], table: &[u8; 256], at: usize) -> Character
     ensures { λ r. ⌜ characterSaid r ≡ textLetterAt (classIn (now (table .entry))) (now (s .entry)) at ⌝ }
 {
-    if bytes::is_at(s, at, 13) {
+    if bytes::is_at(s, at, b'\r') {
         return Character::Whole(line_end(s, at), 10);
     }
     letter(s, table, at)
@@ -256,7 +104,7 @@ fn content_means(s: &[u8], table: &[u8; 256], from: usize, to: usize, word: &[u8
     let mut k = 0;
     let mut i = from;
     while i < to {
-        if bytes::is_at(s, i, 60) {
+        if bytes::is_at(s, i, b'<') {
             let r = markup::bang(s, table, i);
             let Place::Whole(next) = r else {
                 return false;
@@ -328,10 +176,16 @@ pub fn number(s: &[u8], table: &[u8; 256], from: usize, to: usize) -> Number
 pub fn status(s: &[u8], table: &[u8; 256], from: usize, to: usize) -> Status
     ensures { λ r. ⌜ r ≡ statusOf (attributeMeaning (classIn (now (table .entry))) (now (s .entry)) (suc (length (now (s .entry)))) to from) ⌝ }
 {
-    if attribute_means(s, table, from, to, &OK_STATUS) {
+    if attribute_means(s, table, from, to, b"urn:nena-org:dtc:aqstcp:status:Ok") {
         return Status::Ok;
     }
-    if attribute_means(s, table, from, to, &REDUNDANT_STATUS) {
+    if attribute_means(
+        s,
+        table,
+        from,
+        to,
+        b"urn:nena-org:dtc:aqstcp:status:RedundantSession",
+    ) {
         return Status::RedundantSession;
     }
     Status::Other
@@ -340,7 +194,13 @@ pub fn status(s: &[u8], table: &[u8; 256], from: usize, to: usize) -> Status
 pub fn advice(s: &[u8], table: &[u8; 256], from: usize, to: usize) -> Advice
     ensures { λ r. ⌜ r ≡ adviceOf (contentMeaning (classIn (now (table .entry))) (now (s .entry)) (suc (length (now (s .entry)))) to from) ⌝ }
 {
-    if content_means(s, table, from, to, &UNREADABLE_MESSAGE) {
+    if content_means(
+        s,
+        table,
+        from,
+        to,
+        b"urn:nena-org:dtc:aqs:notif:advisory:appl-x:UnreadableMessage",
+    ) {
         return Advice::UnreadableMessage;
     }
     Advice::Other
