@@ -104,9 +104,9 @@ pub(crate) fn end_tag(
     ensures { λ r. ⌜ placeSaid r ≡ endTagAt (classIn (now (table .entry))) (now (s .entry)) linkLimits b (record { local = local; end = e }) at ⌝ }
 {
     if repeats(s, b, e, at) {
-        if bytes::is_at(s, at + (e - b), 62) {
+        if bytes::is_at(s, at + (e - b), b'>') {
             // Any table may be lent: one that gives `>` the class of names or of white space would read on behind it.
-            if bytes::class(table, 62) < 3 {
+            if bytes::class(table, b'>') < bytes::SPACE {
                 return Place::Whole(at + (e - b) + 1);
             }
         }

@@ -6,7 +6,7 @@ use mathlib.Core.List.{List}
 use lib.ListN.{take}
 use Rattle.message.specs.Class.{classOf, isStart, isName, isSpace}
 use Rattle.message.specs.Reading.{is, has, ends, blanks}
-use Rattle.message.specs.Words.{codes}
+use Rattle.message.specs.Words.{char, codes}
 use Rattle.message.specs.Readable.{MarkupMayBegin, Spelled, Open, TagStands, PartStands}
 use Rattle.message.specs.Nine.{NineAt}
 
@@ -25,7 +25,7 @@ pub data Due (s : List ℕ) : ℕ → ℕ → Type 0 where
   -- the first byte that leaves no readable continuation; or the length, of a message that only ends too soon
   nine : (p : ℕ) → NineAt s p → Due s 9 p
   -- the `<` of an element, before a byte that begins a name, where 32 elements are open
-  level : (p : ℕ) → Open 32 (take p s) → has (is 60) s p ≡ true → has (isStart classOf) s (p + 1) ≡ true → Due s 10 p
+  level : (p : ℕ) → Open 32 (take p s) → has (is (char "<")) s p ≡ true → has (isStart classOf) s (p + 1) ≡ true → Due s 10 p
   -- a byte that begins a name, behind a start tag's name, 16 attributes and white space
   attribute : (at to : ℕ) → MarkupMayBegin (take at s) → TagStands s at 16 to → has (isSpace classOf) s to ≡ true
       → has (isStart classOf) s (blanks classOf s to) ≡ true → Due s 11 (blanks classOf s to)

@@ -179,7 +179,7 @@ module _ (class : ℕ → ℕ) (s : List ℕ) where
       stop ← freeAt (length s) at
       let last : Reading Content = endTagAt (start .begin) (start .name) (stop + 2) >>= (λ e. whole (closed stop e)) in
           let further : Reading Content = child stop >>= (λ e. contentAt fuel child start (e .tag .end) >>= (λ c. whole (nested e c))) in
-          cond (has (is 47) s (stop + 1)) last further
+          cond (has (is (char "/")) s (stop + 1)) last further
 
     -- an element behind its start tag
     unfoldable pub restAt : (ℕ → Reading Element) → Start → Reading Element

@@ -16,7 +16,7 @@ use Rattle.message.specs.Elements.{Elements}
 use Rattle.message.specs.Elements.Elements.{none}
 use Rattle.message.specs.Messages.Found.{found}
 use Rattle.message.specs.Messages.{numberValue, statusValue, typeAdvice}
-use Rattle.message.specs.Words.{codes, okStatus, redundantStatus, unreadableMessage}
+use Rattle.message.specs.Words.{char, codes, okStatus, redundantStatus, unreadableMessage}
 use Rattle.message.specs.declared.Number.the-variants.{Names}
 use Rattle.message.specs.declared.Status.the-variants as statuses
 use Rattle.message.specs.declared.Advice.the-variants as advices
@@ -51,14 +51,14 @@ module _ (s : List ℕ) where
   -- the same between tags: CR LF and a lone CR are a line feed, and comments mean nothing
   pub data ContentSays (to : ℕ) : ℕ → List ℕ → Type 0 where
     done : {at : ℕ} → to ≤ at → ContentSays to at []
-    comment : {at e : ℕ} {text : List ℕ} → at < to → has (is 60) s at ≡ true → bangAt classOf s at ≡ whole e → ContentSays to e text → ContentSays to at text
+    comment : {at e : ℕ} {text : List ℕ} → at < to → has (is (char "<")) s at ≡ true → bangAt classOf s at ≡ whole e → ContentSays to e text → ContentSays to at text
     pair : {at : ℕ} {text : List ℕ} → at < to → has (is 13) s at ≡ true → has (is 10) s (at + 1) ≡ true → ContentSays to (at + 2) text
         → ContentSays to at (10 ∷ text)
     line : {at : ℕ} {text : List ℕ} → at < to → has (is 13) s at ≡ true → has (is 10) s (at + 1) ≡ false → ContentSays to (at + 1) text
         → ContentSays to at (10 ∷ text)
-    byte : {at : ℕ} {text : List ℕ} → at < to → has (is 60) s at ≡ false → has (is 13) s at ≡ false → has (isText classOf) s at ≡ true
+    byte : {at : ℕ} {text : List ℕ} → at < to → has (is (char "<")) s at ≡ false → has (is 13) s at ≡ false → has (isText classOf) s at ≡ true
         → ContentSays to (at + 1) text → ContentSays to at (byteAt s at ∷ text)
-    special : {at : ℕ} {text : List ℕ} (c : Character) → at < to → has (is 60) s at ≡ false → has (is 13) s at ≡ false → has (isText classOf) s at ≡ false
+    special : {at : ℕ} {text : List ℕ} (c : Character) → at < to → has (is (char "<")) s at ≡ false → has (is 13) s at ≡ false → has (isText classOf) s at ≡ false
         → specialAt s at ≡ whole c → ContentSays to (c .end) text → ContentSays to at (c .code ∷ text)
 
 -- ---- the characters that references name
@@ -88,7 +88,7 @@ pub data Reference (s : List ℕ) (at : ℕ) : Character → Type 0 where
 
 -- What is read behind an `&` is one of these, and each of them is read.
 pub record ReferenceExactly (s : List ℕ) (at : ℕ) (c : Character) : Type 0 where
-  pub read : has (is 38) s at ≡ true → specialAt s at ≡ whole c → Reference s at c
+  pub read : has (is (char "&")) s at ≡ true → specialAt s at ≡ whole c → Reference s at c
   pub reads : Reference s at c → specialAt s at ≡ whole c
 
 abbrev pub ReferencesMean : Type 0
@@ -96,7 +96,7 @@ ReferencesMean = (s : List ℕ) (at : ℕ) (c : Character) → ReferenceExactly 
 
 -- A character of more than one byte is none of ASCII, so it is part of no number and of no URI.
 abbrev pub OthersBeyondAscii : Type 0
-OthersBeyondAscii = (s : List ℕ) (at : ℕ) (c : Character) → has (is 38) s at ≡ false → specialAt s at ≡ whole c → 128 ≤ c .code
+OthersBeyondAscii = (s : List ℕ) (at : ℕ) (c : Character) → has (is (char "&")) s at ≡ false → specialAt s at ≡ whole c → 128 ≤ c .code
 
 -- ---- numbers
 

@@ -16,7 +16,7 @@ use Rattle.message.specs.Messages.Found.{found}
 use Rattle.message.specs.Names.{Named}
 use Rattle.message.specs.Readable.{NameStands, AttributeStands}
 use Rattle.message.specs.Words as words
-use Rattle.message.specs.Words.{codes}
+use Rattle.message.specs.Words.{char, codes}
 use Rattle.message.specs.declared.Kind.the-variants as kinds
 use Rattle.message.specs.declared.Number.the-variants.{Nothing}
 use Rattle.message.specs.declared.Status.the-variants as statuses
@@ -177,10 +177,10 @@ AttributesDelimited = (s : List ℕ) (at to : ℕ) (a : AttributeStands s at to)
 -- from the `>` of the start tag to the `</` of an end tag with the same name, or an empty-element tag, with 0 and 0
 pub data Between (s : List ℕ) (tag : Tag) : Type 0 where
   tags :
-      0 < tag .from → tag .from ≤ tag .to → tag .to + 1 < length s → byteAt s (tag .from - 1) ≡ 62 → byteAt s (tag .to) ≡ 60 → byteAt s (tag .to + 1) ≡ 47
+      0 < tag .from → tag .from ≤ tag .to → tag .to + 1 < length s → byteAt s (tag .from - 1) ≡ char ">" → byteAt s (tag .to) ≡ char "<" → byteAt s (tag .to + 1) ≡ char "/"
       → part s (tag .to + 2) (tag .to + 2 + (tag .name .end - tag .begin)) ≡ part s (tag .begin) (tag .name .end)
       → Between s tag
-  empty : tag .from ≡ 0 → tag .to ≡ 0 → byteAt s (tag .end - 1) ≡ 62 → byteAt s (tag .end - 2) ≡ 47 → Between s tag
+  empty : tag .from ≡ 0 → tag .to ≡ 0 → byteAt s (tag .end - 1) ≡ char ">" → byteAt s (tag .end - 2) ≡ char "/" → Between s tag
 
 -- An element's place and length delimit its value, in every message that is read.
 abbrev pub TypeDelimited : Type 0
@@ -193,7 +193,7 @@ TypeDelimited =
 -- From one place up to an end tag at another stand text and comments, and these elements in their order: each begins where the text before it stops, and what
 -- follows it begins behind it.
 pub data Holds (s : List ℕ) : ℕ → Elements → ℕ → Type 0 where
-  last : {at to : ℕ} → freeAt classOf s (length s) at ≡ whole to → has (is 47) s (to + 1) ≡ true → Holds s at none to
+  last : {at to : ℕ} → freeAt classOf s (length s) at ≡ whole to → has (is (char "/")) s (to + 1) ≡ true → Holds s at none to
   next : {at stop to : ℕ} {tag : Tag} {inner others : Elements} → freeAt classOf s (length s) at ≡ whole stop → tag .begin ≡ stop + 1
       → Holds s (tag .end) others to → Holds s at (more tag inner others) to
 
@@ -215,9 +215,9 @@ ElementsStand = (s : List ℕ) (l : Limits) (root : Element) → documentAt clas
 
 -- the part of a name that elements are called by: behind its one colon, or all of it
 pub data Local (s : List ℕ) (at : ℕ) (name : Named) : Type 0 where
-  undivided : name .local ≡ at → ((i : ℕ) → at ≤ i → i < name .end → byteAt s i ≡ 58 → ⊥) → Local s at name
-  divided : at < name .local → name .local < name .end → byteAt s (name .local - 1) ≡ 58
-      → ((i : ℕ) → at ≤ i → i < name .end → byteAt s i ≡ 58 → i ≡ name .local - 1) → Local s at name
+  undivided : name .local ≡ at → ((i : ℕ) → at ≤ i → i < name .end → byteAt s i ≡ char ":" → ⊥) → Local s at name
+  divided : at < name .local → name .local < name .end → byteAt s (name .local - 1) ≡ char ":"
+      → ((i : ℕ) → at ≤ i → i < name .end → byteAt s i ≡ char ":" → i ≡ name .local - 1) → Local s at name
 
 abbrev pub LocalNames : Type 0
 LocalNames = (s : List ℕ) (at : ℕ) (name : Named) → NameStands s at name → Local s at name
