@@ -5,7 +5,8 @@ ghost use Rattle.message.specs.Class.{classIn, isStart, atLeast, isName, isSpac
 ghost use Rattle.message.specs.Reading.{is, has, one, ends, upTo, blanks as blanksAt, equalsAt, openedAt, isQuote};
 ghost use Rattle.scan.specs.Answers.{placeSaid};
 
-// The classes, from the one that the fewest bytes have: a byte that may begin a name may stand in one too, and every class here is text.
+// The classes of message/specs/Class. A byte begins a name, or is white space, by having just that class; it may stand in a name, is plain, or is
+// text, by having that class or a higher one.
 pub const NAME_START: u8 = 5;
 
 pub const NAME: u8 = 4;
