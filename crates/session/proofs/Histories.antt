@@ -26,7 +26,7 @@ use Rattle.conduct.proofs.Reached.{sound-step, made-is-sound}
 use Rattle.session.specs.Rows.{noPush, tableOf, isBlank, eventsOf}
 use Rattle.session.specs.Record.{sessionOf, recordOf, consistent}
 use Rattle.session.specs.Answers.{toldOf, refuse, told, written}
-use Rattle.session.specs.Code.{Asked, toldBy, seen, answers, roomy, heeded, AnswersAreHistory, MadeIsConsistent, ReachedIsConsistent}
+use Rattle.session.specs.Code.{Asked, answerTo, seen, answers, roomy, heeded, AnswersAreHistory, MadeIsConsistent, ReachedIsConsistent}
 use Rattle.session.specs.Code.{MadeAllowed, MadeRefused, ShortListRefused, InconsistentRefused, RefusedReturnsTheOld, ListFits}
 use Rattle.session.specs.declared.Session.{Session as Record}
 use Rattle.session.specs.declared.Told.{Told}
@@ -128,7 +128,7 @@ list-fits places d c = go (ltb places 40) refl (consistent d) refl
 
 pub reached-is-consistent : ReachedIsConsistent
 reached-is-consistent d [] passes = passes
-reached-is-consistent d (a ∷ rest) passes = reached-is-consistent (toldBy d a .next) rest (next-consistent (a .places) d (a .call) passes)
+reached-is-consistent d (a ∷ rest) passes = reached-is-consistent (answerTo d a .next) rest (next-consistent (a .places) d (a .call) passes)
 
 -- an answer as the session gives it is the entry of its history
 seen-entry : (s : Session) (c : Call) → seen c (toldOf (step s c)) ≡ entry s c
@@ -152,10 +152,10 @@ answers-are-history d (a ∷ rest) passes = go (roomy a) refl (λ e h. answers-a
         let s : Session = sessionOf d in
         let now = told-steps (a .places) d (a .call) e passes in
         let first = ap (seen (a .call)) now ∙ seen-entry s (a .call) in
-        let later = ih (toldBy d a .next) (next-consistent (a .places) d (a .call) passes) in
+        let later = ih (answerTo d a .next) (next-consistent (a .places) d (a .call) passes) in
         let after = ap (λ (t : Told). sessionOf (t .next)) now ∙ same-session (step s (a .call) .next) in
         let onward = later ∙ ap (λ (t : Session). history t (calls (those roomy rest))) after in
-        let others : List Entry = answers (toldBy d a .next) rest in
+        let others : List Entry = answers (answerTo d a .next) rest in
         ap (λ (x : Entry). those heeded (x ∷ others)) first
         ∙ (heeded-first (entry s (a .call)) others (ap not (other-refusal (a .places) d (a .call) .0)) ∙ ap (_∷_ (entry s (a .call))) onward)
     go false e ih = rw (lt-ltb (a .places) 40 (leb-false 40 (a .places) e)) (ih d passes)

@@ -26,12 +26,12 @@ pub record Asked : Type 0 where
   pub call : Call
   pub places : ℕ
 
-abbrev pub toldBy : Record → Asked → Told
-toldBy d a = told (a .places) d (a .call)
+abbrev pub answerTo : Record → Asked → Told
+answerTo d a = told (a .places) d (a .call)
 
 abbrev pub recordAfter : Record → List Asked → Record
 recordAfter d [] = d
-recordAfter d (a ∷ rest) = recordAfter (toldBy d a .next) rest
+recordAfter d (a ∷ rest) = recordAfter (answerTo d a .next) rest
 
 -- what a host sees of one answer, and of all
 abbrev pub seen : Call → Told → Entry
@@ -39,7 +39,7 @@ seen c t = record { call = c; refusal = t .refusal; events = listOf (t .events);
 
 abbrev pub answers : Record → List Asked → List Entry
 answers d [] = []
-answers d (a ∷ rest) = seen (a .call) (toldBy d a) ∷ answers (toldBy d a .next) rest
+answers d (a ∷ rest) = seen (a .call) (answerTo d a) ∷ answers (answerTo d a .next) rest
 
 -- whether the list of a call is long enough, and whether an answer is another than that it is not
 abbrev pub roomy : Asked → Bool
