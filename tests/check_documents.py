@@ -9,7 +9,7 @@ import os
 import re
 import sys
 
-from reporting import TOP, edits_of, files, must_fail_edits, read, report
+from reporting import TOP, edits_of, files, has_promises, must_fail_edits, read, report
 
 LINK = re.compile(r"\[([^\]]*)\]\(([^)\s]+)\)")
 NAME = re.compile(r"`([^`\s]+)`$")
@@ -57,9 +57,7 @@ def faults_of_omission():
 
 
 def files_of_promises():
-    for path in files("crates", "*", "specs", "*.antt"):
-        if os.path.basename(path) == "Promises.antt" or read(path).startswith(("-- Promise ", "-- Promise:")):
-            yield path
+    return [path for path in files("crates", "*", "specs", "*.antt") if has_promises(path)]
 
 
 def faults_of_proofs():

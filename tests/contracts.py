@@ -1,11 +1,14 @@
-"""The public functions of the libraries, with their contracts, as the sources have them."""
+"""The functions of the crates, with their contracts, as the sources have them."""
 import os
 import re
 from dataclasses import dataclass
 
-from reporting import TOP, files, read
+from reporting import TOP, crates_of, files, read
 
-FUNCTION = re.compile(r'^( *)pub (?:extern "C" )?fn (\w+)(?:<[^>]*>)?(\(.*?)^\1\{', re.MULTILINE | re.DOTALL)
+# The brace of a body stands at the margin of `fn` where there is a contract, and behind the signature where there is none.
+FUNCTION = re.compile(
+    r'^( *)((?:pub(?:\(crate\))? )?(?:extern "C" )?fn (\w+)(?:<[^>]*>)?(\(.*?))(?:^\1| )\{(?:\}$|\n(.*?)^\1\})',
+    re.MULTILINE | re.DOTALL)
 IMPLEMENTATION = re.compile(r"^impl (\w+)", re.MULTILINE)
 REQUIRES = re.compile(r"\brequires\b")
 ENSURES = re.compile(r"ensures (?:\w+ )?\{ λ (\w+)\. ⌜ (.*?) ⌝ \}", re.DOTALL)
@@ -21,6 +24,9 @@ class Function:
     module: str  # inside the crate, '' at its root
     owner: str  # the type that it is a method of, or ''
     name: str
+    public: bool
+    contract: str  # as it is written, with the signature in front
+    body: str
     asks: bool  # whether it has a `requires`
     equations: list  # (the result's name or '_', what is ensured of it)
     lent: list  # the parameters that it may write to
@@ -50,23 +56,23 @@ def owner_at(code, place, indented):
     return owners[-1] if indented and owners else ""
 
 
-def functions_of(crate):
-    folder = os.path.join(TOP, "crates", crate, "src")
-    for source in files("crates", crate, "src", "**", "*.rt"):
+def functions_of(crate, top=TOP):
+    folder = os.path.join(top, "crates", crate, "src")
+    for source in files(folder, "**", "*.rt"):
         code, imports = read(source), imports_of(read(source))
         module = os.path.splitext(os.path.relpath(source, folder))[0].replace(os.sep, "::")
         for found in FUNCTION.finditer(code):
-            indent, name, head = found.groups()
-            yield Function(crate, os.path.relpath(source, TOP), "" if module == "lib" else module, owner_at(code, found.start(), indent), name,
+            indent, contract, name, head, body = found.groups()
+            yield Function(crate, os.path.relpath(source, top), "" if module == "lib" else module, owner_at(code, found.start(), indent), name,
+                           contract.startswith("pub "), contract, body or "",
                            bool(REQUIRES.search(head)), [(result, flat(clause)) for result, clause in ENSURES.findall(head)],
                            LENT.findall(head.split("ensures")[0]), imports)
 
 
 def libraries():
     """In the order of crates.txt, each behind what it stands on."""
-    named = re.findall(r"^(\w+):", read(os.path.join(TOP, "crates.txt")), re.MULTILINE)
-    return [crate for crate in named if os.path.exists(os.path.join(TOP, "crates", crate, "src", "lib.rt"))]
+    return [crate for crate in crates_of(TOP) if os.path.exists(os.path.join(TOP, "crates", crate, "src", "lib.rt"))]
 
 
 def public_functions():
-    return [function for crate in libraries() for function in functions_of(crate)]
+    return [function for crate in libraries() for function in functions_of(crate) if function.public]

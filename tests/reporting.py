@@ -8,7 +8,7 @@ EDIT = re.compile(r"^edit: (\S+)$", re.MULTILINE)
 
 
 def files(*pattern):
-    """The paths below the top that fit the pattern, always in the same order."""
+    """The paths below the top, or below the folder that the pattern begins with, that fit it, always in the same order."""
     return sorted(glob.glob(os.path.join(TOP, *pattern), recursive=True))
 
 
@@ -22,6 +22,16 @@ def edits_of(label, text):
     if len(pieces) == 1:
         return [(label, text)]
     return [(label + "/" + name, piece) for name, piece in zip(pieces[1::2], pieces[2::2])]
+
+
+def crates_of(top):
+    """The crates of a checkout in the order of its crates.txt, each with those that it stands on."""
+    return {name: below.split() for name, below in re.findall(r"^(\w+):([^#\n]*)", read(os.path.join(top, "crates.txt")), re.MULTILINE)}
+
+
+def has_promises(path):
+    """Whether a file of specs/ states promises: its first line says which one it is, or it is all of the crate's."""
+    return os.path.basename(path) == "Promises.antt" or read(path).startswith(("-- Promise ", "-- Promise:"))
 
 
 def read(path):
