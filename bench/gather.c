@@ -1,7 +1,8 @@
 /* Times ali_gather beside a cutter made of memmem and memcpy that does the same job, on the machine's own processor.
  *
- * Both get the same stream in the same pieces and cut it into the same items; that they do is tested before anything
- * is timed. `bench/run` builds and runs this; bench/README.md says how to read what it prints.
+ * All cutters get the same stream in the same pieces and cut it into the same items; that they do is tested before
+ * anything is timed. `bench/run` builds and runs this; with WITH_BEFORE, as bench/beside.py builds it, the ali_gather of
+ * an older archive is timed too. bench/README.md says how to read what is printed.
  */
 #include "ali_link.h"
 
@@ -12,18 +13,45 @@
 #include <time.h>
 
 enum {
-    PIECE = 1460, /* what one Ethernet frame carries of a TCP stream */
+    FRAME = 1460, /* what one Ethernet frame carries of a TCP stream */
     STREAM = 16 << 20,
-    LEAST_BYTES = 256 << 20, /* a run ends at this many bytes, or at the time below, whichever comes first */
     REPETITIONS = 7,
     LONGEST_MESSAGE = 65520,
     LONGEST_BOUNDARY = 16
 };
-static const double least_seconds = 0.5;
+static const double run_seconds = 0.1; /* a run goes over the stream until it has used this much */
+
+enum filler { LINES, ONLY_A };
+static const char *const fillers[] = {[LINES] = "lines", [ONLY_A] = "only `a`"};
+
+struct row {
+    enum filler filler; /* what a record is made of */
+    size_t record_length;
+    const char *boundary;
+    size_t piece_length;
+};
+
+static const struct row rows[] = {
+    {LINES, 3000, "##", FRAME},
+    {LINES, 3000, "#-ALI-#\n", FRAME},
+    {LINES, 3000, "#-ALI-RECORD-#\r\n", FRAME},
+    {LINES, 60000, "##", FRAME},
+    {LINES, 60000, "#-ALI-#\n", FRAME},
+    {LINES, 60000, "#-ALI-RECORD-#\r\n", FRAME},
+    {LINES, 3000, "#", FRAME},
+    {LINES, 3000, "</a>", FRAME}, /* this and the next begin as every tag of a line does */
+    {LINES, 3000, "<EndOfRecord/>", FRAME},
+    {LINES, 3000, "################", FRAME},
+    {LINES, 3000, "##", 40},
+    {LINES, 3000, "#-ALI-RECORD-#\r\n", 40},
+    {ONLY_A, 3000, "aaaaaaaaaaaaaaab", FRAME}, /* each byte keeps all but the last matched */
+    {ONLY_A, 3000, "aaaaaaaaaaaaaaba", FRAME}, /* first and last byte stand everywhere */
+    {ONLY_A, 3000, "aaaaaaaabaaaaaaa", FRAME}, /* from both ends, half of it stands everywhere */
+};
 
 struct stream {
-    const char *boundary;
-    size_t boundary_length, record_length, length, records;
+    const struct row *row;
+    size_t boundary_length, length, records;
     uint8_t *bytes;
 };
 
@@ -32,7 +60,7 @@ struct item {
     unsigned kind; /* as at ALI_ITEM */
 };
 
-/* ---- the stream: XML-like lines, one in four with a false start of the boundary ---- */
+/* ---- the stream ---- */
 
 static uint32_t random_below(uint32_t *state, uint32_t limit)
 {
@@ -40,37 +68,49 @@ static uint32_t random_below(uint32_t *state, uint32_t limit)
     return (*state >> 8) % limit;
 }
 
+/* An XML-like line. One in four has a false start of the boundary; a boundary of one byte can have none. */
 static size_t make_line(char *line, size_t room, const struct stream *s, uint32_t *state)
 {
     static const char *const streets[] = {"Linden Ave", "Mill Pond Rd", "Harbor St", "County Road 12"};
-    int false_start = random_below(state, 4) == 0 ? 1 + (int)random_below(state, (uint32_t)s->boundary_length - 1) : 0;
+    uint32_t most = (uint32_t)s->boundary_length - 1;
+    int false_start = most > 0 && random_below(state, 4) == 0 ? 1 + (int)random_below(state, most) : 0;
     unsigned house = random_below(state, 9000);
     const char *street = streets[random_below(state, 4)];
     return (size_t)snprintf(line, room, "<Location><HouseNum>%u</HouseNum><Street>%s</Street><Unit>%.*s.</Unit></Location>\n",
-                            house, street, false_start, s->boundary);
+                            house, street, false_start, s->row->boundary);
 }
 
-/* A record's last byte is one that no boundary begins with, so that a false start never runs into the real one. */
-static void make_record(uint8_t *record, const struct stream *s, uint32_t *state)
+static void fill_with_lines(uint8_t *record, const struct stream *s, uint32_t *state)
 {
     char line[200];
-    size_t filled = 0;
-    while (filled < s->record_length) {
+    size_t filled = 0, wanted = s->row->record_length;
+    while (filled < wanted) {
         size_t length = make_line(line, sizeof line, s, state);
-        if (length > s->record_length - filled)
-            length = s->record_length - filled;
+        if (length > wanted - filled)
+            length = wanted - filled;
         memcpy(record + filled, line, length);
         filled += length;
     }
-    record[filled - 1] = '>';
-    memcpy(record + filled, s->boundary, s->boundary_length);
 }
 
-static void make_stream(struct stream *s, const char *boundary, size_t record_length)
+/* A record's last byte is one that its boundary does not have, so that a false start which the record's end cuts off
+ * neither becomes a boundary nor runs into the real one. */
+static void make_record(uint8_t *record, const struct stream *s, uint32_t *state)
+{
+    const struct row *row = s->row;
+    if (row->filler == LINES)
+        fill_with_lines(record, s, state);
+    else
+        memset(record, 'a', row->record_length);
+    record[row->record_length - 1] = strchr(row->boundary, '>') == NULL ? '>' : '.';
+    memcpy(record + row->record_length, row->boundary, s->boundary_length);
+}
+
+static void make_stream(struct stream *s, const struct row *row)
 {
     uint32_t state = 911;
-    size_t step = record_length + strlen(boundary);
-    *s = (struct stream){.boundary = boundary, .boundary_length = strlen(boundary), .record_length = record_length};
+    size_t step = row->record_length + strlen(row->boundary);
+    *s = (struct stream){.row = row, .boundary_length = strlen(row->boundary)};
     s->records = STREAM / step;
     s->length = s->records * step;
     s->bytes = malloc(s->length);
@@ -82,7 +122,7 @@ static void make_stream(struct stream *s, const char *boundary, size_t record_le
         make_record(s->bytes + i * step, s, &state);
 }
 
-/* ---- the two cutters: each takes bytes of a piece until an item is complete or the piece is used up ---- */
+/* ---- the cutters: each takes bytes of a piece until an item is complete or the piece is used up ---- */
 
 struct cutter {
     const struct stream *stream;
@@ -94,11 +134,12 @@ struct cutter {
     uint8_t store[ALI_STORE_LENGTH];
 };
 typedef struct item take(struct cutter *, const uint8_t *piece, size_t length);
+typedef uint32_t gather(const uint8_t *, size_t, uint8_t *, size_t, const uint8_t *, size_t, uint32_t, uint32_t, uint64_t *, size_t);
 
-static struct item take_proved(struct cutter *c, const uint8_t *piece, size_t length)
+static inline struct item take_by(gather *gather, struct cutter *c, const uint8_t *piece, size_t length)
 {
-    uint32_t refusal = ali_gather((const uint8_t *)c->stream->boundary, c->stream->boundary_length, c->store, sizeof c->store,
-                                  piece, length, (uint32_t)c->gathered, c->matched, c->answer, ALI_ANSWER_PLACES);
+    uint32_t refusal = gather((const uint8_t *)c->stream->row->boundary, c->stream->boundary_length, c->store, sizeof c->store,
+                              piece, length, (uint32_t)c->gathered, c->matched, c->answer, ALI_ANSWER_PLACES);
     if (refusal != 0) {
         fprintf(stderr, "gather: refused with %u\n", (unsigned)refusal);
         exit(1);
@@ -107,6 +148,20 @@ static struct item take_proved(struct cutter *c, const uint8_t *piece, size_t le
     c->matched = (uint32_t)c->answer[ALI_MATCHED];
     return (struct item){(size_t)c->answer[ALI_TAKEN], (size_t)c->answer[ALI_LENGTH], (unsigned)c->answer[ALI_ITEM]};
 }
+
+static struct item take_proved(struct cutter *c, const uint8_t *piece, size_t length)
+{
+    return take_by(ali_gather, c, piece, length);
+}
+
+#ifdef WITH_BEFORE
+gather ali_gather_before;
+
+static struct item take_before(struct cutter *c, const uint8_t *piece, size_t length)
+{
+    return take_by(ali_gather_before, c, piece, length);
+}
+#endif
 
 /* A boundary that began before this piece: the tail and as many bytes of the piece as could complete it. Returns how
  * many bytes of the piece it ends behind, 0 for none. */
@@ -119,7 +174,7 @@ static size_t end_across(const struct cutter *c, const uint8_t *piece, size_t le
         return 0;
     memcpy(seam, c->tail, c->tail_length);
     memcpy(seam + c->tail_length, piece, ahead);
-    found = memmem(seam, c->tail_length + ahead, c->stream->boundary, k);
+    found = memmem(seam, c->tail_length + ahead, c->stream->row->boundary, k);
     return found == NULL ? 0 : (size_t)(found - seam) + k - c->tail_length;
 }
 
@@ -149,7 +204,7 @@ static struct item take_memmem(struct cutter *c, const uint8_t *piece, size_t le
 {
     size_t k = c->stream->boundary_length, end = end_across(c, piece, length), before;
     if (end == 0) {
-        const uint8_t *found = memmem(piece, length, c->stream->boundary, k);
+        const uint8_t *found = memmem(piece, length, c->stream->row->boundary, k);
         end = found == NULL ? 0 : (size_t)(found - piece) + k;
     }
     store_bytes(c, piece, end == 0 ? length : end);
@@ -165,35 +220,56 @@ static struct item take_memmem(struct cutter *c, const uint8_t *piece, size_t le
     return (struct item){end, before, ALI_ITEM_MESSAGE};
 }
 
+static const struct {
+    const char *name;
+    take *take;
+} cutters[] = {
+    {"ali_gather", take_proved},
+#ifdef WITH_BEFORE
+    {"before", take_before},
+#endif
+    {"memmem + memcpy", take_memmem},
+};
+enum { CUTTERS = sizeof cutters / sizeof *cutters };
+
 /* ---- the same items? ---- */
 
-static void differ(const struct stream *s, size_t place)
+static void differ(const struct stream *s, int cutter, size_t place)
 {
-    fprintf(stderr, "gather: the cutters differ, records of %zu, boundary of %zu, at byte %zu\n", s->record_length,
-            s->boundary_length, place);
+    fprintf(stderr, "gather: items differ, seen at %s: %s, records of %zu, boundary of %zu, byte %zu\n", cutters[cutter].name,
+            fillers[s->row->filler], s->row->record_length, s->boundary_length, place);
     exit(1);
+}
+
+/* The first cutter's item, if every other takes the same; at the end of an item their whole stores are the same too. */
+static struct item take_same(struct cutter held[CUTTERS], const struct stream *s, size_t place, size_t length)
+{
+    struct item a = cutters[0].take(&held[0], s->bytes + place, length);
+    for (int i = 1; i < CUTTERS; i++) {
+        struct item b = cutters[i].take(&held[i], s->bytes + place, length);
+        if (a.taken != b.taken || a.kind != b.kind || a.length != b.length || held[0].gathered != held[i].gathered)
+            differ(s, i, place);
+        if (a.kind != ALI_ITEM_NONE && memcmp(held[0].store, held[i].store, sizeof held[i].store) != 0)
+            differ(s, i, place);
+    }
+    return a;
 }
 
 static void check_same_items(const struct stream *s, size_t piece_length)
 {
-    static struct cutter proved, peer;
+    static struct cutter held[CUTTERS];
     size_t place = 0, messages = 0;
-    memset(&proved, 0, sizeof proved);
-    memset(&peer, 0, sizeof peer);
-    proved.stream = peer.stream = s;
+    memset(held, 0, sizeof held);
+    for (int i = 0; i < CUTTERS; i++)
+        held[i].stream = s;
     while (place < s->length) {
         size_t left = piece_length - place % piece_length, length = left < s->length - place ? left : s->length - place;
-        struct item a = take_proved(&proved, s->bytes + place, length), b = take_memmem(&peer, s->bytes + place, length);
-        if (a.taken != b.taken || a.kind != b.kind || a.length != b.length || proved.gathered != peer.gathered)
-            differ(s, place);
-        if (a.kind != ALI_ITEM_NONE && memcmp(proved.store, peer.store, sizeof peer.store) != 0)
-            differ(s, place);
-        if (a.kind == ALI_ITEM_MESSAGE && a.length == s->record_length)
-            messages++;
-        place += a.taken;
+        struct item item = take_same(held, s, place, length);
+        messages += item.kind == ALI_ITEM_MESSAGE && item.length == s->row->record_length;
+        place += item.taken;
     }
     if (messages != s->records)
-        differ(s, place);
+        differ(s, 0, place);
 }
 
 /* ---- time ---- */
@@ -206,15 +282,15 @@ static double seconds_used(void)
     return (double)t.tv_sec + 1e-9 * (double)t.tv_nsec;
 }
 
-static size_t pass_over(struct cutter *c, take *cutter)
+static size_t pass_over(struct cutter *c, take *take)
 {
     const struct stream *s = c->stream;
-    size_t messages = 0;
-    for (size_t place = 0; place < s->length; place += PIECE) {
+    size_t messages = 0, step = s->row->piece_length;
+    for (size_t place = 0; place < s->length; place += step) {
         const uint8_t *piece = s->bytes + place;
-        size_t left = s->length - place < PIECE ? s->length - place : PIECE;
+        size_t left = s->length - place < step ? s->length - place : step;
         while (left > 0) {
-            struct item item = cutter(c, piece, left);
+            struct item item = take(c, piece, left);
             messages += item.kind == ALI_ITEM_MESSAGE;
             piece += item.taken;
             left -= item.taken;
@@ -223,7 +299,7 @@ static size_t pass_over(struct cutter *c, take *cutter)
     return messages;
 }
 
-static double megabytes_per_second(const struct stream *s, take *cutter)
+static double megabytes_per_second(const struct stream *s, int cutter)
 {
     static struct cutter c;
     size_t bytes = 0;
@@ -232,11 +308,11 @@ static double megabytes_per_second(const struct stream *s, take *cutter)
     c.stream = s;
     begun = seconds_used();
     do {
-        if (pass_over(&c, cutter) != s->records)
-            differ(s, s->length);
+        if (pass_over(&c, cutters[cutter].take) != s->records)
+            differ(s, cutter, s->length);
         bytes += s->length;
         took = seconds_used() - begun;
-    } while (bytes < LEAST_BYTES && took < least_seconds);
+    } while (took < run_seconds);
     return 1e-6 * (double)bytes / took;
 }
 
@@ -246,36 +322,69 @@ static int by_size(const void *a, const void *b)
     return (x > y) - (x < y);
 }
 
-/* The two take turns, so that whatever else the machine does falls on both. */
-static void time_both(const struct stream *s)
+/* The cutters take turns, so that whatever else the machine does falls on all. */
+static void time_all(const struct stream *s, double speeds[CUTTERS][REPETITIONS])
 {
-    double proved[REPETITIONS], peer[REPETITIONS];
+    for (int k = 0; k < REPETITIONS; k++)
+        for (int i = 0; i < CUTTERS; i++)
+            speeds[i][k] = megabytes_per_second(s, i);
+    for (int i = 0; i < CUTTERS; i++)
+        qsort(speeds[i], REPETITIONS, sizeof speeds[i][0], by_size);
+}
+
+/* ---- the table ---- */
+
+static void print_head(void)
+{
+    printf("| stream | record | boundary | piece |");
+    for (int i = 0; i < CUTTERS; i++)
+        printf(" %s best | median |", cutters[i].name);
+    for (int i = 1; i < CUTTERS; i++)
+        printf(" ratio to %s |", cutters[i].name);
+    printf("\n|---|---|---|---|");
+    for (int i = 1; i < 3 * CUTTERS; i++)
+        printf("---|");
+    puts("");
+}
+
+/* As C writes it, and its length. */
+static void print_boundary(const char *boundary)
+{
+    printf(" `");
+    for (const char *byte = boundary; *byte != '\0'; byte++)
+        if (*byte == '\r' || *byte == '\n')
+            printf("\\%c", *byte == '\r' ? 'r' : 'n');
+        else
+            putchar(*byte);
+    printf("` (%zu) |", strlen(boundary));
+}
+
+static void print_row(const struct row *row, double speeds[CUTTERS][REPETITIONS])
+{
     int last = REPETITIONS - 1, middle = REPETITIONS / 2;
-    for (int i = 0; i < REPETITIONS; i++) {
-        proved[i] = megabytes_per_second(s, take_proved);
-        peer[i] = megabytes_per_second(s, take_memmem);
-    }
-    qsort(proved, REPETITIONS, sizeof *proved, by_size);
-    qsort(peer, REPETITIONS, sizeof *peer, by_size);
-    printf("| %zu | %zu | %.0f | %.0f | %.0f | %.0f | %.2f |\n", s->record_length, s->boundary_length,
-           proved[last], proved[middle], peer[last], peer[middle], proved[middle] / peer[middle]);
+    printf("| %s | %zu |", fillers[row->filler], row->record_length);
+    print_boundary(row->boundary);
+    printf(" %zu |", row->piece_length);
+    for (int i = 0; i < CUTTERS; i++)
+        printf(" %.0f | %.0f |", speeds[i][last], speeds[i][middle]);
+    for (int i = 1; i < CUTTERS; i++)
+        printf(" %.2f |", speeds[0][middle] / speeds[i][middle]);
+    puts("");
     fflush(stdout);
 }
 
 int main(void)
 {
-    static const size_t records[] = {3000, 60000};
-    static const char *const boundaries[] = {"##", "#-ALI-#\n", "#-ALI-RECORD-#\r\n"};
+    double speeds[CUTTERS][REPETITIONS];
     struct stream s;
-    puts("| record | boundary | ali_gather best | median | memmem + memcpy best | median | ratio of medians |");
-    puts("|---|---|---|---|---|---|---|");
-    for (size_t i = 0; i < sizeof records / sizeof *records; i++)
-        for (size_t j = 0; j < sizeof boundaries / sizeof *boundaries; j++) {
-            make_stream(&s, boundaries[j], records[i]);
-            check_same_items(&s, PIECE);
-            check_same_items(&s, 7); /* shorter than the longest boundary: it then spans three pieces and more */
-            time_both(&s);
-            free(s.bytes);
-        }
+    print_head();
+    for (size_t i = 0; i < sizeof rows / sizeof *rows; i++) {
+        make_stream(&s, &rows[i]);
+        check_same_items(&s, rows[i].piece_length);
+        check_same_items(&s, 7); /* shorter than the longest boundary: it then spans three pieces and more */
+        time_all(&s, speeds);
+        print_row(&rows[i], speeds);
+        free(s.bytes);
+    }
     return 0;
 }

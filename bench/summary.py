@@ -13,8 +13,9 @@ def rows(text):
 
 
 def cutting(cells):
-    """record, boundary, ours best, ours median, the peer's best, the peer's median, ratio"""
-    return "cutting: records of %s bytes, boundary of %s, MB/s" % tuple(cells[:2]), {"ours": cells[3], "memmem + memcpy": cells[5]}
+    """stream, record, boundary, piece, ours best, ours median, the peer's best, the peer's median, ratio"""
+    what = "cutting: %s, records of %s bytes, boundary %s, pieces of %s, MB/s" % tuple(cells[:4])
+    return what, {"ours": cells[5], "memmem + memcpy": cells[7]}
 
 
 def calling(cells):
@@ -35,7 +36,7 @@ def fastest(readings):
 def summary(text):
     figures, reading = [], {}
     for cells in rows(text):
-        if len(cells) == 7 and cells[0].isdigit():
+        if len(cells) == 9 and cells[1].isdigit():
             figures.append(cutting(cells))
         elif len(cells) == 3 and cells[0] in ("tick", "ok"):
             figures.append(calling(cells))
