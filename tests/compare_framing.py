@@ -62,7 +62,7 @@ def run_random_cases(tally, real, seed, numbers):
 
 
 COMPARISON = DriverComparison(
-    description="Holds ali_gather against the independent framing model.", thing="case", cases=3200, start=Driver,
+    description="Holds ali_gather against the independent framing model.", thing="case", cases=4000, start=Driver,
     vectors="framing.txt", vectors_text=vectors_text, self_tests=all_self_tests, run_vector=run_vector,
     run_exhaustive=run_small_streams, run_random_cases=run_random_cases)
 

@@ -10,8 +10,9 @@ from checks import compare_vectors_written_again, equal
 from driver import fill
 from framing import (COUNT_CAP, EMPTY, MESSAGE, MESSAGE_LIMIT, NO_ITEM, TOO_LONG, Item, end_of_boundary, gather,
                      items_of_stream, refusal_of)
-from framing_cases import STREAM_CASES, check_stream, cut_at
+from framing_cases import STREAM_CASES
 from framing_links import ModelLink
+from framing_streams import check_stream, cut_at
 from vector_text import vector_from_text, vector_to_text
 
 LIMIT_MESSAGE = b"p" * MESSAGE_LIMIT

@@ -5,78 +5,16 @@
 
 import itertools
 import sys
-import zlib
 
-from driver import fill
-from framing import COUNT_CAP, MESSAGE_LIMIT, PLACES_NEEDED, STORE_NEEDED, gather
+from framing import COUNT_CAP, MESSAGE_LIMIT, STORE_NEEDED
+from framing_block_vectors import BLOCK_GROUPS
+from framing_blocks import FIBONACCI
+from framing_vectors import Session, every_cut, fed, in_pieces, single, spelled
 from paper_000_tables import BOUNDARY_OF_000
-from vector_text import Call, Vector, vector_to_text
+from vector_text import vector_to_text
 
-SPELLED = b"ABCDEFG"  # seven different letters, so that bytes laid at a wrong place show
 BOUNDARY_OF_LENGTH = {1: b"#", 2: b"##", 3: b"aab", 15: b"aaaaaaabaaaaaaa", 16: b"aaaaaaabaaaaaaab"}
 LONG_STORE = 70000
-
-
-def spelled(length):
-    return (SPELLED * (length // len(SPELLED) + 1))[:length]
-
-
-class Session:
-    """Calls over one store, each answered by the model."""
-
-    def __init__(self, name, boundary, store_length=STORE_NEEDED):
-        self.name, self.boundary = name, boundary
-        self.fill_seed = zlib.crc32(name.encode()) % 1000  # differs from vector to vector, and needs no bookkeeping
-        self.store = fill(store_length, self.fill_seed)
-        self.calls = []
-        self.held = (0, 0)
-
-    def call(self, piece, gathered=None, matched=None, places=PLACES_NEEDED):
-        """One call, with the numbers held where none are given. Says how many bytes were taken."""
-        gathered = self.held[0] if gathered is None else gathered
-        matched = self.held[1] if matched is None else matched
-        done = gather(self.boundary, self.store, piece, gathered, matched, places)
-        self.calls.append(Call(gathered, matched, places, piece, done.refusal, done.numbers, done.written))
-        self.store = done.store
-        if done.numbers is None:
-            return 0
-        self.held = done.numbers[3:]
-        return done.numbers[0]
-
-    def feed(self, *pieces):
-        """Whole pieces, the untaken rest of each handed in again until it is used up."""
-        for piece in pieces:
-            taken = self.call(piece)
-            while taken < len(piece):
-                step = self.call(piece[taken:])
-                if step == 0:
-                    raise ValueError("%s: bytes are left and none is taken" % self.name)
-                taken += step
-        return self
-
-    def vector(self):
-        return Vector(self.name, self.boundary, len(self.store), self.fill_seed, self.calls)
-
-
-def fed(name, boundary, *pieces, store_length=STORE_NEEDED):
-    return Session(name, boundary, store_length).feed(*pieces).vector()
-
-
-def single(name, boundary, piece, gathered=0, matched=0, places=PLACES_NEEDED, store_length=STORE_NEEDED):
-    session = Session(name, boundary, store_length)
-    session.call(piece, gathered, matched, places)
-    return session.vector()
-
-
-def every_cut(name, boundary, stream):
-    yield fed(name + "-whole", boundary, stream)
-    for place in range(len(stream) + 1):
-        yield fed("%s-cut-%d" % (name, place), boundary, stream[:place], stream[place:])
-    yield fed(name + "-bytes", boundary, *[stream[i:i + 1] for i in range(len(stream))])
-
-
-def in_pieces(stream, size):
-    return [stream[at:at + size] for at in range(0, len(stream), size)]
 
 
 def examples():
@@ -249,13 +187,12 @@ def empty_pieces():
 
 def overlapping():
     """Boundaries that begin again within themselves."""
-    fibonacci = b"abaababaabaababaababa"
     for k in (1, 2, 3, 4, 8, 15, 16):
         yield fed("overlap-a%d" % k, b"a" * k, b"a" * (5 * k + k // 2))
         yield fed("overlap-a%d-bytes" % k, b"a" * k, *[b"a"] * (2 * k + 1))
         yield fed("overlap-late-b%d" % k, b"a" * (k - 1) + b"b", b"a" * 40 + b"b" + b"a" * k + b"b" + b"a" * k)
-        yield fed("overlap-fibonacci-%d" % k, fibonacci[:k], fibonacci[:k - 1] + fibonacci + fibonacci)
-        yield fed("overlap-half-%d" % k, fibonacci[:k], fibonacci[:k // 2] * 3 + fibonacci[:k] * 2 + fibonacci[:k - 1])
+        yield fed("overlap-fibonacci-%d" % k, FIBONACCI[:k], FIBONACCI[:k - 1] + FIBONACCI + FIBONACCI)
+        yield fed("overlap-half-%d" % k, FIBONACCI[:k], FIBONACCI[:k // 2] * 3 + FIBONACCI[:k] * 2 + FIBONACCI[:k - 1])
     yield from every_cut("overlap-aabaab", b"aabaaa", b"aabaabaabaaabaaa")
     yield from every_cut("overlap-ababa", b"ababa", b"abababababbaababa")
 
@@ -278,7 +215,7 @@ def later_places():
 
 GROUPS = (examples, limits, counts_of_16_bits, refused_edges, refused_pairs, refused_together, refused_between, capped,
           given_pairs, given_pairs_at_limit, misleading_stores, places_written, empty_pieces, overlapping,
-          all_byte_values, later_places)
+          all_byte_values, later_places) + BLOCK_GROUPS
 
 
 def all_vectors():
