@@ -1,15 +1,18 @@
--- Which first bytes of the boundary end its first j bytes and then c: what `ends` compares, and what `step` looks for. Assumes nothing.
+-- Which first bytes of the boundary end its first j bytes and then c, as `ends` compares them, and how `step` and `tail` find the most that end a run. Assumes nothing.
 use mathlib.Core.Path.{_≡_, refl, sym, ap, _∙_}
 use mathlib.Core.Bool.{Bool, true, false}
 use mathlib.Core.List.{List, [], _∷_, _++_}
 use Prim.Native.Nat.{ℕ, suc, _+_, _-_, _≤_, _<_}
+use native.Mathlib.Nat.{zero-add}
 use native.Mathlib.Omega.{arith}
 use lib.ListN.{length, take, drop, getD, length-append, length-take, length-drop}
 use lib.Seq.{take-suc, take-add, getD-take, getD-drop, getD-append-add, ext-getD}
 use lib.Dec.{leb}
 use borrow.Author.Tests.{leb-true, leb-false}
 use Rattle.framing.specs.Cutting.{longestMatch}
-use Rattle.laws.proofs.Tests.{never}
+use Rattle.framing.specs.Standing.{sameAt}
+use Rattle.framing.proofs.Stands.{each-same, all-same}
+use Rattle.laws.proofs.Tests.{iff-same, never}
 use Rattle.laws.proofs.Search.{greatest-is}
 use Rattle.laws.specs.Bytes.{Ends, endsWith}
 use Rattle.laws.proofs.Tails.{ends-of-test, test-of-ends, too-long, ends-nil, ends-snoc, ends-unsnoc}
@@ -43,42 +46,48 @@ module _ (b : List ℕ) (j c t : ℕ) (within : j < length b) (bounds : (0 < t) 
       let one : t ≡ suc (t - 1) = omega arith in
       ap (λ (i : ℕ). take i b) one ∙ take-suc b (t - 1) 0 (omega arith)
 
-  pub taken-apart : endsWith (take t b) (take j b ++ (c ∷ [])) ≡ true → Agrees b j (t - 1) × (getD b (t - 1) 0 ≡ c)
+  taken-apart : endsWith (take t b) (take j b ++ (c ∷ [])) ≡ true → Agrees b j (t - 1) × (getD b (t - 1) 0 ≡ c)
   taken-apart h =
       let both = ends-unsnoc (take (t - 1) b) (take j b) (getD b (t - 1) 0) c (rw as-snoc at (ends-of-test _ _ h)) in
       (agrees-of-ends b j (t - 1) (omega arith) within (both .0), both .1)
 
-  pub put-together : Agrees b j (t - 1) → getD b (t - 1) 0 ≡ c → endsWith (take t b) (take j b ++ (c ∷ [])) ≡ true
+  put-together : Agrees b j (t - 1) → getD b (t - 1) 0 ≡ c → endsWith (take t b) (take j b ++ (c ∷ [])) ≡ true
   put-together h same =
       test-of-ends _ _ (rw (as-snoc, same) (ends-snoc (take (t - 1) b) (take j b) c (ends-of-agrees b j (t - 1) (omega arith) within h)))
 
   pub last-differs : (getD b (t - 1) 0 ≡ c → ⊥) → false ≡ endsWith (take t b) (take j b ++ (c ∷ []))
   last-differs other = sym (never _ (λ p. other (taken-apart p .1)))
 
-  pub one-differs : (y : ℕ) → y < t - 1 → (getD b y 0 ≡ getD b (j - (t - 1) + y) 0 → ⊥) → false ≡ endsWith (take t b) (take j b ++ (c ∷ []))
-  one-differs y below other = sym (never _ (λ p. other (taken-apart p .0 y below)))
+  -- and where the last byte is the same, the bytes before it decide
+  pub last-same : getD b (t - 1) 0 ≡ c → sameAt (t - 1) b 0 b (j - (t - 1)) ≡ endsWith (take t b) (take j b ++ (c ∷ []))
+  last-same same =
+      iff-same _ _
+      (λ h. put-together (λ y below. sym (each-same b 0 b (j - (t - 1)) (t - 1) h y below ∙ ap (λ (n : ℕ). getD b n 0) (zero-add y))) same)
+      (λ h.
+      all-same b 0 b (j - (t - 1)) (t - 1) (omega arith) (omega arith)
+      (λ y below. sym (taken-apart h .0 y below) ∙ ap (λ (n : ℕ). getD b n 0) (sym (zero-add y))))
 
--- no more than t first bytes of b end w
-abbrev pub NoneAbove : List ℕ → List ℕ → ℕ → Type 0
-NoneAbove b w t = (x : ℕ) → t < x → x < suc (length b) → endsWith (take x b) w ≡ false
+-- of the first bytes of b, fewer than n, no more than t end w
+abbrev pub NoneAbove : ℕ → List ℕ → List ℕ → ℕ → Type 0
+NoneAbove n b w t = (x : ℕ) → t < x → x < n → endsWith (take x b) w ≡ false
 
-pub above-first : (b : List ℕ) (j c : ℕ) → j < length b → NoneAbove b (take j b ++ (c ∷ [])) (j + 1)
+pub above-first : (b : List ℕ) (j c : ℕ) → j < length b → NoneAbove (suc (length b)) b (take j b ++ (c ∷ [])) (j + 1)
 above-first b j c within x above below =
     too-long (take x b) (take j b ++ (c ∷ [])) (simp (length-take, length-append) (omega arith))
 
-module _ (b w : List ℕ) (t : ℕ) (above : NoneAbove b w t) where
-  pub above-next : endsWith (take t b) w ≡ false → NoneAbove b w (t - 1)
+module _ (n : ℕ) (b w : List ℕ) (t : ℕ) (above : NoneAbove n b w t) where
+  pub above-next : endsWith (take t b) w ≡ false → NoneAbove n b w (t - 1)
   above-next off x over below = go (leb x t) refl
     where
       go : (r : Bool) → leb x t ≡ r → endsWith (take x b) w ≡ false
       go true e = let same : x ≡ t = omega (arith, leb-true x t e) in rw same off
       go false e = above x (leb-false x t e) below
 
-  pub above-found : t < suc (length b) → endsWith (take t b) w ≡ true → t ≡ longestMatch (suc (length b)) b w
+  pub above-found : t < n → endsWith (take t b) w ≡ true → t ≡ longestMatch n b w
   unfolding longestMatch
-  above-found below h = sym (greatest-is (λ j. endsWith (take j b) w) (suc (length b)) t below h above)
+  above-found below h = sym (greatest-is (λ j. endsWith (take j b) w) n t below h above)
 
-pub above-none : (b w : List ℕ) (t : ℕ) → NoneAbove b w t → t ≤ 0 → 0 ≡ longestMatch (suc (length b)) b w
-unfolding longestMatch
-above-none b w t above low =
-    sym (greatest-is (λ j. endsWith (take j b) w) (suc (length b)) 0 (omega arith) (test-of-ends [] w (ends-nil w)) (λ x over below. above x (omega arith) below))
+  pub above-none : 0 < n → t ≤ 0 → 0 ≡ longestMatch n b w
+  unfolding longestMatch
+  above-none some low =
+      sym (greatest-is (λ j. endsWith (take j b) w) n 0 some (test-of-ends [] w (ends-nil w)) (λ x over below. above x (omega arith) below))

@@ -36,7 +36,7 @@ ends-glue u h q d e rest =
     (e .0, ap (λ (l : List ℕ). l ++ q) (e .1) ∙ append-assoc (e .0) (take d u) q ∙ ap (λ (l : List ℕ). e .0 ++ (take d u ++ l)) (sym rest) ∙ ap (λ (l : List ℕ). e .0 ++ l) (take-append-drop d u))
 
 -- whether u, which is no longer than q, is a tail of `h ++ q` does not depend on h
-ends-short : (u h h′ q : List ℕ) → length u ≤ length q → Ends u (h ++ q) → Ends u (h′ ++ q)
+pub ends-short : (u h h′ q : List ℕ) → length u ≤ length q → Ends u (h ++ q) → Ends u (h′ ++ q)
 ends-short u h h′ q short e = ends-trans u q (h′ ++ q) (ends-within u q (h ++ q) e (h, refl) short) (h′, refl)
 
 module _ (b h : List ℕ) (some : 0 < length b) where
@@ -74,11 +74,11 @@ module _ (b h : List ℕ) (some : 0 < length b) where
           test-of-ends _ _ (ends-glue (take t b) h q d (rw front (tail-of-all b h d (rw front at (both .0)))) (both .1)))
 
 -- how p is cut where the item ends L bytes into it, and what is matched over is w
-cutInto : List ℕ → List ℕ → List ℕ → ℕ → Bool → Cut
+unfoldable pub cutInto : List ℕ → List ℕ → List ℕ → ℕ → Bool → Cut
 cutInto b p w L t = cond t (record { ended = true; taken = L; matched = 0 }) (record { ended = false; taken = length p; matched = longestMatch (length b) b w })
 
 -- of w the first n bytes are no part of the piece
-cut-at : (b p w : List ℕ) (n L : ℕ) → itemEnd b w ≡ n + L → length w ≡ n + length p → cutOver b p n w ≡ cutInto b p w L (leb L (length p))
+pub cut-at : (b p w : List ℕ) (n L : ℕ) → itemEnd b w ≡ n + L → length w ≡ n + length p → cutOver b p n w ≡ cutInto b p w L (leb L (length p))
 unfolding cutOver cutInto
 cut-at b p w n L end size = go (leb L (length p)) refl
   where

@@ -2,9 +2,11 @@
 -- and an item mean for the bytes gathered. The theorems of specs/Refusals stand in `Refusals` and `Unchanged`, those of specs/Promises in `Cuts`, `Found`, `Link`,
 -- `Numbers`, `Places`, `OwnNumbers`, `OneCall` and `Stream`; `OneAnswer` says that a contract has one answer, and `Bounds` has two laws for callers.
 mod Matcher
+mod Stands
 mod Borders
 mod Call
 mod GoesOn
+mod Pieces
 mod Stored
 mod Handed
 pub mod Refusals

@@ -73,11 +73,11 @@ pub seen-below : (b p : List ℕ) (m i j : ℕ) → m < length b → Seen b p m 
 seen-below b p m i j held seen = rw (← seen .tail) (longest-below (length b) b (take m b ++ take i p) (omega arith))
 
 module _ (b p : List ℕ) (m : ℕ) (held : m < length b) where
-  length-held : length (take m b) ≡ m
+  pub length-held : length (take m b) ≡ m
   length-held = simp length-take (omega arith)
 
   -- the first m + i of what is matched over
-  front : (i : ℕ) → take (m + i) (take m b ++ p) ≡ take m b ++ take i p
+  pub front : (i : ℕ) → take (m + i) (take m b ++ p) ≡ take m b ++ take i p
   front i = ap (λ (n : ℕ). take (n + i) (take m b ++ p)) (sym length-held) ∙ take-append-add (take m b) p i
 
   pub seen-first : Seen b p m 0 m

@@ -4,3 +4,4 @@ pub mod Cutting
 pub mod Refusals
 pub mod Stream
 pub mod Promises
+pub mod Standing

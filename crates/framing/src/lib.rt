@@ -1,7 +1,9 @@
 // Cutting a stream of bytes into items that end with a boundary (document 01, "Cutting the stream").
 // specs/Cutting.antt says what a call answers and leaves in the store, specs/Stream.antt what that makes of a whole stream.
 mod answers;
+mod cutting;
 mod matching;
+mod standing;
 mod store;
 
 ghost use mathlib.Core.Path.{_≡_};
@@ -104,7 +106,7 @@ fn gather_within(
     if refusal != 0 {
         return answers::refused(refusal, gathered, matched);
     }
-    let cut = matching::scan(boundary, piece, matched as usize);
+    let cut = cutting::cut_piece(boundary, piece, matched as usize);
     let taken = cut.taken;
     let kept = store::kept(limit, size, gathered, taken);
     store::lay(store, gathered as usize, piece, kept);

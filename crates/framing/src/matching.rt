@@ -1,6 +1,7 @@
-// The matcher: how much of the boundary the bytes so far end with. After a byte that does not go on with the match it falls back
-// to the longest shorter match, and never starts afresh.
+// The matcher, byte by byte: how much of the boundary the bytes so far end with. After a byte that does not go on with the match it
+// falls back to the longest shorter match, and never starts afresh.
 use crate::Cut;
+use crate::standing;
 ghost use mathlib.Core.Path.{_≡_};
 ghost use mathlib.Core.List.{[], _∷_, _++_};
 ghost use Prim.Native.Nat.{suc, _≤_, _<_};
@@ -18,15 +19,7 @@ fn ends(boundary: &[u8], matched: usize, byte: u8, tried: usize) -> bool
     if boundary[last] != byte {
         return false;
     }
-    let shift = matched - last;
-    let mut i = 0;
-    while i < last {
-        if boundary[i] != boundary[shift + i] {
-            return false;
-        }
-        i += 1;
-    }
-    true
+    standing::few(boundary, last, boundary, matched - last)
 }
 
 // How many bytes of the boundary are matched after `byte`, where `matched` were before it.

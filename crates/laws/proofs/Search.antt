@@ -33,6 +33,16 @@ unfolding least
 least-skip f zero n h = simp zero-add
 least-skip f (suc a) n h = simp suc-add (rw (h zero (suc-le-suc zero-le)) (ap suc (least-skip (λ e. f (suc e)) a n (λ j l. h (suc j) (suc-le-suc l)))))
 
+-- what is found is no more than the bound
+pub least-within : (test : ℕ → Bool) (n : ℕ) → least test n ≤ n
+unfolding least
+least-within test zero = zero-le
+least-within test (suc n) = go (test zero) (least-within (λ e. test (suc e)) n)
+  where
+    go : (t : Bool) → least (λ e. test (suc e)) n ≤ n → cond t zero (suc (least (λ e. test (suc e)) n)) ≤ suc n
+    go true ih = zero-le
+    go false ih = suc-le-suc ih
+
 -- nothing below what is found passes
 pub least-below : (test : ℕ → Bool) (n j : ℕ) → j < least test n → test j ≡ false
 unfolding least

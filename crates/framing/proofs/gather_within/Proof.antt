@@ -21,14 +21,14 @@ fits : (c : tie.Else1)
     (c .before .before .before .before .before .args .matched)
 fits c = accepted _ _ _ _ _ (sym (c .before .refusal .ensures) ∙ c .if1 .left)
 
--- what the scan found fits the piece
-cut-fit : (c : tie.After-scan)
+-- how the piece is cut fits the piece
+cut-fit : (c : tie.After-cut-piece)
     → Fit
     (now (c .before .before .before .before .before .before .args .boundary))
     (now (c .before .before .before .before .before .before .args .piece))
     (c .before .before .before .before .before .before .args .matched)
-    (c .scan .result)
-cut-fit c = rw (c .scan .ensures) (cut-fits _ _ _ (fits (c .before) .below))
+    (c .cut-piece .result)
+cut-fit c = rw (c .cut-piece .ensures) (cut-fits _ _ _ (fits (c .before) .below))
 
 refusal-requires : tie.Need-refusal-requires
 refusal-requires c κs = search needs
@@ -45,8 +45,8 @@ returns c =
     (c .before .if1 .taken) in
     (c .refused .ensures ∙ said .0, said .1)
 
-scan-requires : tie.Need-scan-requires
-scan-requires c κs = fits c .below
+cut-piece-requires : tie.Need-cut-piece-requires
+cut-piece-requires c κs = (fits c .below, fits c .few)
 
 kept-requires : tie.Need-kept-requires
 kept-requires c κs = fits (c .before) .few
@@ -59,9 +59,9 @@ lay-requires c κs =
 
 of-cut-requires : tie.Need-of-cut-requires
 of-cut-requires c κs =
-    let at-scan = c .before .before .before .before .before in
-    let ok = fits (at-scan .before) in
-    let fit = cut-fit at-scan in
+    let at-cut = c .before .before .before .before .before in
+    let ok = fits (at-cut .before) in
+    let fit = cut-fit at-cut in
     (ok .few, (omega arith, λ ended. omega (arith, fit .whole ended)))
 
 same-length : tie.Need-same-length
@@ -69,13 +69,13 @@ same-length c = search needs
 
 returns-2 : tie.Need-returns-2
 returns-2 c =
-    let at-scan = c .before .before .before .before .before .before in
-    let number = at-scan .before .before .refusal in
-    let a = at-scan .before .before .before .before .before .before .args in
+    let at-cut = c .before .before .before .before .before .before in
+    let number = at-cut .before .before .refusal in
+    let a = at-cut .before .before .before .before .before .before .args in
     let said =
     when-taken (a .limit) (now (a .boundary)) (now (a .store)) (now (a .piece)) (a .gathered) (a .matched) (number .result) (number .ensures)
-    (at-scan .before .if1 .left) in
-    (rw (at-scan .scan .ensures) at (c .of-cut .ensures) ∙ said .0, rw (c .before .before .before .before .before .kept .ensures, at-scan .scan .ensures) at (c .before .before .before .lay .ensures) ∙ said .1)
+    (at-cut .before .if1 .left) in
+    (rw (at-cut .cut-piece .ensures) at (c .of-cut .ensures) ∙ said .0, rw (c .before .before .before .before .before .kept .ensures, at-cut .cut-piece .ensures) at (c .before .before .before .lay .ensures) ∙ said .1)
 
 pub gather-within-spec : {M : Type 1} → statement M
 gather-within-spec =
@@ -84,7 +84,7 @@ gather-within-spec =
     refusal-requires
     refused-requires
     returns
-    scan-requires
+    cut-piece-requires
     kept-requires
     lay-requires
     of-cut-requires
