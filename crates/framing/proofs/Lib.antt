@@ -1,4 +1,4 @@
--- `Matcher` and `Borders` carry the code's matching and `Call` the cases of one call; `GoesOn`, `Stored` and `Handed` say what the held match, the store
+-- `Matcher` and `Borders` carry the code's matching, `Stands` and `Pieces` its looking for the boundary whole, and `Call` the cases of one call; `GoesOn`, `Stored` and `Handed` say what the held match, the store
 -- and an item mean for the bytes gathered. The theorems of specs/Refusals stand in `Refusals` and `Unchanged`, those of specs/Promises in `Cuts`, `Found`, `Link`,
 -- `Numbers`, `Places`, `OwnNumbers`, `OneCall` and `Stream`; `OneAnswer` says that a contract has one answer, and `Bounds` has two laws for callers.
 mod Matcher

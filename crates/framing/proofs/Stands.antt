@@ -55,7 +55,7 @@ module _ (b : List ℕ) (j : ℕ) (p : List ℕ) (i : ℕ) where
   same-more n false inside within is =
       sym (never _ (λ h. true-false (all-same n (omega arith) (omega arith) (λ y below. each-same (n + 1) h y (omega arith))) (sym is)))
 
--- so where nothing is compared
+-- nothing is the same as nothing
 pub same-none : (b : List ℕ) (j : ℕ) (p : List ℕ) (i : ℕ) → sameAt 0 b j p i ≡ true
 unfolding sameAt
 same-none b j p i = same-refl (take 0 (drop j b))
@@ -65,9 +65,6 @@ module _ (b p : List ℕ) (i : ℕ) (long : 8 ≤ length b) (few : length b ≤ 
   pub two-eights : sameAt 8 b 0 p i ≡ true → sameAt 8 b (length b - 8) p (i + (length b - 8)) ≡ standsAt b p i
   two-eights front = iff-same _ _ whole back
     where
-      rest : ℕ
-      rest = length b - 8
-
       at-end : sameAt 8 b (length b - 8) p (i + (length b - 8)) ≡ true → (y : ℕ) → 8 ≤ y → y < length b → getD p (i + y) 0 ≡ getD b y 0
       at-end h y low below =
           let there : i + (length b - 8) + (y - (length b - 8)) ≡ i + y = omega arith in
@@ -119,7 +116,7 @@ pub pair-stands : (b : List ℕ) (j : ℕ) (p : List ℕ) (i : ℕ) → j < leng
 pair-stands b j p i inside off =
     never _
     (λ h.
-    let first : getD p i 0 ≡ getD b 0 0 = rw add-zero at (each-same b 0 p i (length b) h 0 (omega arith)) in
+    let first : getD p i 0 ≡ getD b 0 0 = rw (add-zero i) at (each-same b 0 p i (length b) h 0 (omega arith)) in
     let other : getD p (i + j) 0 ≡ getD b j 0 = rw zero-add at (each-same b 0 p i (length b) h j inside) in
     true-false (rw (eq-eqb (getD p i 0) (getD b 0 0) first, eq-eqb (getD p (i + j) 0) (getD b j 0) other)) off)
 
