@@ -71,7 +71,7 @@ fn first_and_last(boundary: &[u8], piece: &[u8], at: usize) -> bool
 }
 
 // The same of its first byte and the one in its middle. A function of its own: the compiler inlines one that has a single caller, and a call for
-// each block would cost a third of the speed.
+// each block costs a third of the speed.
 fn first_and_middle(boundary: &[u8], piece: &[u8], at: usize) -> bool
     requires { ⌜ (0 < length (now boundary)) × (at + 31 + length (now boundary) ≤ length (now piece)) ⌝ }
     ensures { λ r. ⌜ r ≡ pairIn (now (boundary .entry)) (length (now (boundary .entry)) / 2) (now (piece .entry)) at ⌝ }
