@@ -41,12 +41,14 @@ static const struct row rows[] = {
     {LINES, 3000, "#", FRAME},
     {LINES, 3000, "</a>", FRAME}, /* this and the next begin as every tag of a line does */
     {LINES, 3000, "<EndOfRecord/>", FRAME},
+    {LINES, 3000, "</Locatiox>", FRAME}, /* but for one byte it is a tag that every line has */
     {LINES, 3000, "################", FRAME},
     {LINES, 3000, "##", 40},
     {LINES, 3000, "#-ALI-RECORD-#\r\n", 40},
     {ONLY_A, 3000, "aaaaaaaaaaaaaaab", FRAME}, /* each byte keeps all but the last matched */
     {ONLY_A, 3000, "aaaaaaaaaaaaaaba", FRAME}, /* first and last byte stand everywhere */
-    {ONLY_A, 3000, "aaaaaaaabaaaaaaa", FRAME}, /* from both ends, half of it stands everywhere */
+    {ONLY_A, 3000, "aaaaaaaaabaaaaaa", FRAME}, /* as these, and the byte in the middle too */
+    {ONLY_A, 3000, "aaaaaba", FRAME},          /* shorter than eight bytes */
 };
 
 struct stream {

@@ -14,7 +14,7 @@ use Rattle.laws.specs.Search.{least}
 use Rattle.laws.proofs.Tests.{iff-same, never, true-false, neither}
 use Rattle.laws.proofs.Search.{least-is, least-none, least-below, least-passes, least-within}
 use Rattle.laws.proofs.Tails.{same-refl, same-eq}
-use Rattle.framing.specs.Standing.{sameAt, standsAt, firstFrom, pairAt, someBelow, pairIn, mayStand}
+use Rattle.framing.specs.Standing.{sameAt, standsAt, firstFrom, pairAt, someBelow, blockPlaces, pairIn, mayStand}
 
 -- ---- bytes that are the same
 
@@ -135,15 +135,15 @@ pub record First (b p : List ℕ) (i e r : ℕ) : Type 0 where
 
 module _ (b p : List ℕ) where
   -- a block in which a pair of the boundary's bytes does not stand
-  no-pair : (j i : ℕ) → j < length b → pairIn b j p i ≡ false → NoneFrom b p i (i + 32)
+  no-pair : (j i : ℕ) → j < length b → pairIn b j p i ≡ false → NoneFrom b p i (i + blockPlaces)
   no-pair j i inside off x low high =
       let here : i + (x - i) ≡ x = omega arith in
-      rw here at (pair-stands b j p (i + (x - i)) inside (none-below (λ d. pairAt b j p (i + d)) 32 off (x - i) (omega arith)))
+      rw here at (pair-stands b j p (i + (x - i)) inside (none-below (λ d. pairAt b j p (i + d)) blockPlaces off (x - i) (omega arith)))
 
-  pub block-free : (i : ℕ) → 0 < length b → mayStand b p i ≡ false → NoneFrom b p i (i + 32)
+  pub block-free : (i : ℕ) → 0 < length b → mayStand b p i ≡ false → NoneFrom b p i (i + blockPlaces)
   block-free i some off = go (pairIn b (length b - 1) p i) refl off
     where
-      go : (t : Bool) → pairIn b (length b - 1) p i ≡ t → (t && pairIn b (length b / 2) p i) ≡ false → NoneFrom b p i (i + 32)
+      go : (t : Bool) → pairIn b (length b - 1) p i ≡ t → (t && pairIn b (length b / 2) p i) ≡ false → NoneFrom b p i (i + blockPlaces)
       go true e off = no-pair (length b / 2) i (omega arith) off
       go false e off = no-pair (length b - 1) i (omega arith) e
 

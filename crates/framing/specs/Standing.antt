@@ -29,10 +29,14 @@ unfoldable pub someBelow : (ℕ → Bool) → ℕ → Bool
 someBelow test zero = false
 someBelow test (suc n) = someBelow test n || test n
 
--- such a pair stands at one of the 32 places of p from place i on
-abbrev pub pairIn : List ℕ → ℕ → List ℕ → ℕ → Bool
-pairIn b j p i = someBelow (λ d. pairAt b j p (i + d)) 32
+-- the places of a block
+abbrev pub blockPlaces : ℕ
+blockPlaces = 32
 
--- the block of 32 places from place i on is worth a closer look: the first byte of b stands in it with the last one, and with the one in the middle
+-- such a pair stands in p at one of the places of the block from place i on
+abbrev pub pairIn : List ℕ → ℕ → List ℕ → ℕ → Bool
+pairIn b j p i = someBelow (λ d. pairAt b j p (i + d)) blockPlaces
+
+-- the block from place i on is worth a closer look: the first byte of b stands in it with the last one, and with the one in the middle
 abbrev pub mayStand : List ℕ → List ℕ → ℕ → Bool
 mayStand b p i = pairIn b (length b - 1) p i && pairIn b (length b / 2) p i

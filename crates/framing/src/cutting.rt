@@ -1,4 +1,5 @@
-// How a piece is cut: byte by byte where a match is held from before it, and by the first place at which the boundary stands whole in all the rest.
+// How a piece is cut: by the first place at which the boundary stands whole in it. Byte by byte go only pieces shorter than the boundary, and the first bytes
+// behind a match that is held from before the piece.
 use crate::Cut;
 use crate::matching;
 use crate::standing;
@@ -14,7 +15,7 @@ fn tail(boundary: &[u8], piece: &[u8]) -> usize
 {
     let mut tried = boundary.len() - 1;
     while 0 < tried {
-        if standing::few(boundary, tried, piece, piece.len() - tried) {
+        if standing::part_stands(boundary, tried, piece, piece.len() - tried) {
             return tried;
         }
         tried -= 1;

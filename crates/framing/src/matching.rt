@@ -19,7 +19,7 @@ fn ends(boundary: &[u8], matched: usize, byte: u8, tried: usize) -> bool
     if boundary[last] != byte {
         return false;
     }
-    standing::few(boundary, last, boundary, matched - last)
+    standing::part_stands(boundary, last, boundary, matched - last)
 }
 
 // How many bytes of the boundary are matched after `byte`, where `matched` were before it.

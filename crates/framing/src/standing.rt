@@ -1,15 +1,15 @@
-// Where the boundary stands whole in a piece. Places are looked at 32 at a time, all of them with no exit between, so that the compiler makes a few vector
-// moves of a block; only a block in which two pairs of the boundary's bytes stand is gone through place by place.
+// Where the boundary stands whole in a piece. Places are looked at a block at a time, all of them with no exit between, so that the compiler makes a few vector
+// moves of a block. Place by place goes what a block leaves: one in which two pairs of the boundary's bytes stand, and a piece with fewer places than a block.
 ghost use mathlib.Core.Path.{_≡_};
 ghost use Prim.Native.Nat.{suc, _+_, _-_, _/_, _≤_, _<_, min};
 ghost use lib.ListN.{length};
-ghost use Rattle.framing.specs.Standing.{sameAt, standsAt, firstFrom, pairIn, mayStand};
+ghost use Rattle.framing.specs.Standing.{sameAt, standsAt, firstFrom, blockPlaces, pairIn, mayStand};
 
 // The places of a block.
 const BLOCK: usize = 32;
 
 // Whether the first `count` bytes of the boundary stand in the piece at place `at`.
-pub(crate) fn few(boundary: &[u8], count: usize, piece: &[u8], at: usize) -> bool
+pub(crate) fn part_stands(boundary: &[u8], count: usize, piece: &[u8], at: usize) -> bool
     requires { ⌜ (count ≤ length (now boundary)) × (at + count ≤ length (now piece)) ⌝ }
     ensures { λ r. ⌜ r ≡ sameAt count (now (boundary .entry)) 0 (now (piece .entry)) at ⌝ }
 {
@@ -24,7 +24,7 @@ pub(crate) fn few(boundary: &[u8], count: usize, piece: &[u8], at: usize) -> boo
 }
 
 // Whether the boundary's eight bytes from place `from` on stand in the piece at place `at`: one comparison of eight bytes to the compiler.
-fn eight(boundary: &[u8], from: usize, piece: &[u8], at: usize) -> bool
+fn eight_stand(boundary: &[u8], from: usize, piece: &[u8], at: usize) -> bool
     requires { ⌜ (from + 8 ≤ length (now boundary)) × (at + 8 ≤ length (now piece)) ⌝ }
     ensures { λ r. ⌜ r ≡ sameAt 8 (now (boundary .entry)) from (now (piece .entry)) at ⌝ }
 {
@@ -44,18 +44,18 @@ fn stands(boundary: &[u8], piece: &[u8], at: usize) -> bool
 {
     let size = boundary.len();
     if size < 8 {
-        return few(boundary, size, piece, at);
+        return part_stands(boundary, size, piece, at);
     }
-    if !eight(boundary, 0, piece, at) {
+    if !eight_stand(boundary, 0, piece, at) {
         return false;
     }
     let rest = size - 8;
-    eight(boundary, rest, piece, at + rest)
+    eight_stand(boundary, rest, piece, at + rest)
 }
 
 // Whether at one of a block's places, the first of which is `at`, the boundary's first byte stands, and its last byte where it then would.
 fn first_and_last(boundary: &[u8], piece: &[u8], at: usize) -> bool
-    requires { ⌜ (0 < length (now boundary)) × (at + 31 + length (now boundary) ≤ length (now piece)) ⌝ }
+    requires { ⌜ (0 < length (now boundary)) × (at + blockPlaces + length (now boundary) ≤ suc (length (now piece))) ⌝ }
     ensures { λ r. ⌜ r ≡ pairIn (now (boundary .entry)) (length (now (boundary .entry)) - 1) (now (piece .entry)) at ⌝ }
 {
     let place = boundary.len() - 1;
@@ -73,7 +73,7 @@ fn first_and_last(boundary: &[u8], piece: &[u8], at: usize) -> bool
 // The same of its first byte and the one in its middle. A function of its own: the compiler inlines one that has a single caller, and a call for
 // each block costs a third of the speed.
 fn first_and_middle(boundary: &[u8], piece: &[u8], at: usize) -> bool
-    requires { ⌜ (0 < length (now boundary)) × (at + 31 + length (now boundary) ≤ length (now piece)) ⌝ }
+    requires { ⌜ (0 < length (now boundary)) × (at + blockPlaces + length (now boundary) ≤ suc (length (now piece))) ⌝ }
     ensures { λ r. ⌜ r ≡ pairIn (now (boundary .entry)) (length (now (boundary .entry)) / 2) (now (piece .entry)) at ⌝ }
 {
     let place = boundary.len() / 2;
@@ -90,7 +90,7 @@ fn first_and_middle(boundary: &[u8], piece: &[u8], at: usize) -> bool
 
 // Whether the boundary may stand at one of a block's places: two pairs of its bytes do.
 fn may_stand(boundary: &[u8], piece: &[u8], at: usize) -> bool
-    requires { ⌜ (0 < length (now boundary)) × (at + 31 + length (now boundary) ≤ length (now piece)) ⌝ }
+    requires { ⌜ (0 < length (now boundary)) × (at + blockPlaces + length (now boundary) ≤ suc (length (now piece))) ⌝ }
     ensures { λ r. ⌜ r ≡ mayStand (now (boundary .entry)) (now (piece .entry)) at ⌝ }
 {
     if !first_and_last(boundary, piece, at) {
@@ -125,13 +125,13 @@ fn lesser(a: usize, b: usize) -> usize
 
 // The first place below `end` at which the boundary stands, or `end`. The last block lies over the one before it, so that no place is left for itself.
 fn by_blocks(boundary: &[u8], piece: &[u8], end: usize) -> usize
-    requires { ⌜ (0 < length (now boundary)) × (length (now boundary) ≤ 16) × (32 ≤ end) × (end + length (now boundary) ≤ suc (length (now piece))) ⌝ }
+    requires { ⌜ (0 < length (now boundary)) × (length (now boundary) ≤ 16) × (blockPlaces ≤ end) × (end + length (now boundary) ≤ suc (length (now piece))) ⌝ }
     ensures { λ r. ⌜ r ≡ firstFrom (now (boundary .entry)) (now (piece .entry)) 0 end ⌝ }
 {
-    let last = end - BLOCK;
+    let last_block = end - BLOCK;
     let mut i = 0;
     while i < end {
-        let at = lesser(i, last);
+        let at = lesser(i, last_block);
         i = at + BLOCK;
         if may_stand(boundary, piece, at) {
             let place = one_by_one(boundary, piece, at, i);

@@ -5,8 +5,7 @@ use mathlib.Core.Logic.{⊎-elim}
 use mathlib.Core.Path.{sym, ap, _∙_}
 use borrow.Author.Needs.{needs}
 use native.Mathlib.Omega.{arith}
-use lib.ListN.{length-take}
-use lib.ListN.{length}
+use lib.ListN.{length, length-take}
 use denote.Ref.{now}
 use Rattle.framing.specs.Cutting.{cutOf}
 use Rattle.framing.proofs.Pieces.{seam-ended, seam-free, seam-passed}

@@ -22,11 +22,11 @@ sub-tried c = search needs
 loop-holds : tie.Need-loop-holds Inv-loop μ-loop
 loop-holds c = (search needs, λ x above below. absurd (omega arith))
 
-sub-few : tie.Need-sub-few Inv-loop μ-loop
-sub-few c = search needs
+sub-part-stands : tie.Need-sub-part-stands Inv-loop μ-loop
+sub-part-stands c = search needs
 
-few-requires : tie.Need-few-requires Inv-loop μ-loop
-few-requires c κs = search needs
+part-stands-requires : tie.Need-part-stands-requires Inv-loop μ-loop
+part-stands-requires c κs = search needs
 
 returns : tie.Need-returns Inv-loop μ-loop
 returns c =
@@ -34,7 +34,7 @@ returns c =
     let a = start .args in
     let at-loop = c .before .before .before .loop in
     above-found (length (now (a .boundary))) (now (a .boundary)) (now (a .piece)) (at-loop .tried) (at-loop .inv .1) (search needs)
-    (sym (tail-stands (now (a .boundary)) (now (a .piece)) (at-loop .tried) (search needs) (search needs)) ∙ sym (c .before .few .ensures) ∙ c .if1 .taken)
+    (sym (tail-stands (now (a .boundary)) (now (a .piece)) (at-loop .tried) (search needs) (search needs)) ∙ sym (c .before .part-stands .ensures) ∙ c .if1 .taken)
 
 sub-tried-2 : tie.Need-sub-tried-2 Inv-loop μ-loop
 sub-tried-2 c = search needs
@@ -49,7 +49,7 @@ loop-again c =
     let at-loop = c .before .before .before .loop in (
       search needs,
       above-next (length (now (a .boundary))) (now (a .boundary)) (now (a .piece)) (at-loop .tried) (at-loop .inv .1)
-          (sym (tail-stands (now (a .boundary)) (now (a .piece)) (at-loop .tried) (search needs) (search needs)) ∙ sym (c .before .few .ensures) ∙ c .if1 .left),
+          (sym (tail-stands (now (a .boundary)) (now (a .piece)) (at-loop .tried) (search needs) (search needs)) ∙ sym (c .before .part-stands .ensures) ∙ c .if1 .left),
     )
 
 returns-2 : tie.Need-returns-2 Inv-loop μ-loop
@@ -67,8 +67,8 @@ tail-spec =
     μ-loop
     sub-tried
     loop-holds
-    sub-few
-    few-requires
+    sub-part-stands
+    part-stands-requires
     returns
     sub-tried-2
     loop-less

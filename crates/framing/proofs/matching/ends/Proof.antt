@@ -18,18 +18,18 @@ returns c =
     let a = start .args in
     last-differs (now (a .boundary)) (a .matched) (a .byte) (a .tried) (start .pre .0) (start .pre .1) (c .if1 .taken)
 
-sub-few : tie.Need-sub-few
-sub-few c = search needs
+sub-part-stands : tie.Need-sub-part-stands
+sub-part-stands c = search needs
 
-few-requires : tie.Need-few-requires
-few-requires c κs = search needs
+part-stands-requires : tie.Need-part-stands-requires
+part-stands-requires c κs = search needs
 
 returns-2 : tie.Need-returns-2
 returns-2 c =
     let start = c .before .before .before .before in
     let a = start .args in
-    c .few .ensures ∙ last-same (now (a .boundary)) (a .matched) (a .byte) (a .tried) (start .pre .0) (start .pre .1) (c .before .if1 .left)
+    c .part-stands .ensures ∙ last-same (now (a .boundary)) (a .matched) (a .byte) (a .tried) (start .pre .0) (start .pre .1) (c .before .if1 .left)
 
 pub ends-spec : {M : Type 1} → statement M
 ends-spec =
-    tie.close (tie.spec sub-last shared-slice-read-if1 returns sub-few few-requires returns-2)
+    tie.close (tie.spec sub-last shared-slice-read-if1 returns sub-part-stands part-stands-requires returns-2)

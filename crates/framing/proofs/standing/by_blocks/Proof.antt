@@ -5,18 +5,19 @@ use mathlib.Core.Path.{_≡_, sym, _∙_}
 use borrow.Author.Needs.{needs}
 use native.Mathlib.Omega.{arith}
 use denote.Ref.{now}
+use Rattle.framing.specs.Standing.{blockPlaces}
 use Rattle.framing.proofs.Stands.{NoneFrom, First, none-on, block-free, first-is, first-has, first-nowhere}
 use Rattle.framing.proofs.standing.by_blocks.Statement.{statement}
 use Rattle.framing.proofs.standing.by_blocks.Tie as tie
 
 abbrev Inv-loop : tie.InvT-loop
-Inv-loop boundary piece end last i₀ i = (i ≤ end) × NoneFrom boundary piece 0 i
+Inv-loop boundary piece end last-block i₀ i = (i ≤ end) × NoneFrom boundary piece 0 i
 
 abbrev μ-loop : tie.MeasureT-loop
-μ-loop boundary piece end last i₀ i = end - i
+μ-loop boundary piece end last-block i₀ i = end - i
 
-sub-last : tie.Need-sub-last Inv-loop μ-loop
-sub-last c = search needs
+sub-last-block : tie.Need-sub-last-block Inv-loop μ-loop
+sub-last-block c = search needs
 
 loop-holds : tie.Need-loop-holds Inv-loop μ-loop
 loop-holds c = (search needs, λ x low high. absurd (omega arith))
@@ -41,7 +42,7 @@ returns c =
     let at-loop = c .before .before .before .before .before .before .loop in
     let at = c .before .before .before .before .lesser in
     let found = c .before .one-by-one in
-    let first : First b p (at .result) (at .result + 32) (found .result) = rw (found .ensures) (first-has b p (at .result) (at .result + 32) (omega arith)) in
+    let first : First b p (at .result) (at .result + blockPlaces) (found .result) = rw (found .ensures) (first-has b p (at .result) (at .result + blockPlaces) (omega arith)) in
     first-is b p 0 (a .end) (found .result)
     (record {
       low = omega arith;
@@ -61,10 +62,10 @@ loop-again c =
     let at-loop = c .before .before .before .before .before .before .loop in
     let at = c .before .before .before .before .lesser in
     let found = c .before .one-by-one in
-    let first : First b p (at .result) (at .result + 32) (found .result) = rw (found .ensures) (first-has b p (at .result) (at .result + 32) (omega arith)) in (
+    let first : First b p (at .result) (at .result + blockPlaces) (found .result) = rw (found .ensures) (first-has b p (at .result) (at .result + blockPlaces) (omega arith)) in (
       omega (arith, at .ensures),
-      none-on b p 0 (at-loop .i) (at .result) (at .result + 32) (omega (arith, at .ensures)) (at-loop .inv .1)
-          (first-nowhere b p (at .result) (at .result + 32) (found .result) first (c .if2 .left)),
+      none-on b p 0 (at-loop .i) (at .result) (at .result + blockPlaces) (omega (arith, at .ensures)) (at-loop .inv .1)
+          (first-nowhere b p (at .result) (at .result + blockPlaces) (found .result) first (c .if2 .left)),
     )
 
 loop-less-2 : tie.Need-loop-less-2 Inv-loop μ-loop
@@ -79,7 +80,7 @@ loop-again-2 c =
     let at-loop = c .before .before .before .before .loop in
     let at = c .before .before .lesser in (
       omega (arith, at .ensures),
-      none-on b p 0 (at-loop .i) (at .result) (at .result + 32) (omega (arith, at .ensures)) (at-loop .inv .1)
+      none-on b p 0 (at-loop .i) (at .result) (at .result + blockPlaces) (omega (arith, at .ensures)) (at-loop .inv .1)
           (block-free b p (at .result) (omega arith) (sym (c .before .may-stand .ensures) ∙ c .if1 .left)),
     )
 
@@ -97,7 +98,7 @@ by-blocks-spec =
     (tie.spec
     Inv-loop
     μ-loop
-    sub-last
+    sub-last-block
     loop-holds
     lesser-requires
     add-i

@@ -6,16 +6,16 @@ use borrow.Author.Needs.{needs}
 use native.Mathlib.Omega.{arith}
 use lib.ListN.{length}
 use denote.Ref.{now}
-use Rattle.framing.specs.Standing.{pairAt, someBelow}
+use Rattle.framing.specs.Standing.{pairAt, someBelow, blockPlaces}
 use Rattle.framing.proofs.Stands.{some-more}
 use Rattle.framing.proofs.standing.first_and_last.Statement.{statement}
 use Rattle.framing.proofs.standing.first_and_last.Tie as tie
 
 abbrev Inv-loop : tie.InvT-loop
-Inv-loop boundary piece at place first last found₀ i₀ found i = (i ≤ 32) × (found ≡ someBelow (λ d. pairAt boundary place piece (at + d)) i)
+Inv-loop boundary piece at place first last found₀ i₀ found i = (i ≤ blockPlaces) × (found ≡ someBelow (λ d. pairAt boundary place piece (at + d)) i)
 
 abbrev μ-loop : tie.MeasureT-loop
-μ-loop boundary piece at place first last found₀ i₀ found i = 32 - i
+μ-loop boundary piece at place first last found₀ i₀ found i = blockPlaces - i
 
 sub-place : tie.Need-sub-place Inv-loop μ-loop
 sub-place c = search needs
@@ -59,7 +59,7 @@ loop-again c =
 
 returns : tie.Need-returns Inv-loop μ-loop
 returns c =
-    let all : c .before .loop .i ≡ 32 = omega arith in
+    let all : c .before .loop .i ≡ blockPlaces = omega arith in
     rw all at (c .before .loop .inv .1)
 
 pub first-and-last-spec : {M : Type 1} → statement M

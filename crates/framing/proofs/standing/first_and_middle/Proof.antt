@@ -5,16 +5,16 @@ use borrow.Author.Needs.{needs}
 use native.Mathlib.Omega.{arith}
 use lib.ListN.{length}
 use denote.Ref.{now}
-use Rattle.framing.specs.Standing.{pairAt, someBelow}
+use Rattle.framing.specs.Standing.{pairAt, someBelow, blockPlaces}
 use Rattle.framing.proofs.Stands.{some-more}
 use Rattle.framing.proofs.standing.first_and_middle.Statement.{statement}
 use Rattle.framing.proofs.standing.first_and_middle.Tie as tie
 
 abbrev Inv-loop : tie.InvT-loop
-Inv-loop boundary piece at place first middle found₀ i₀ found i = (i ≤ 32) × (found ≡ someBelow (λ d. pairAt boundary place piece (at + d)) i)
+Inv-loop boundary piece at place first middle found₀ i₀ found i = (i ≤ blockPlaces) × (found ≡ someBelow (λ d. pairAt boundary place piece (at + d)) i)
 
 abbrev μ-loop : tie.MeasureT-loop
-μ-loop boundary piece at place first middle found₀ i₀ found i = 32 - i
+μ-loop boundary piece at place first middle found₀ i₀ found i = blockPlaces - i
 
 shared-slice-read-first : tie.Need-shared-slice-read-first Inv-loop μ-loop
 shared-slice-read-first c = search needs
@@ -55,7 +55,7 @@ loop-again c =
 
 returns : tie.Need-returns Inv-loop μ-loop
 returns c =
-    let all : c .before .loop .i ≡ 32 = omega arith in
+    let all : c .before .loop .i ≡ blockPlaces = omega arith in
     rw all at (c .before .loop .inv .1)
 
 pub first-and-middle-spec : {M : Type 1} → statement M

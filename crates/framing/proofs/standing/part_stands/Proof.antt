@@ -1,4 +1,4 @@
--- `framing::standing::few` meets its contract. The invariant of its loop: i is at most `count`, and the bytes at each place below i are the same. Assumes nothing.
+-- `framing::standing::part_stands` meets its contract. The invariant of its loop: i is at most `count`, and the bytes at each place below i are the same. Assumes nothing.
 use Prim.Native.Nat.{ℕ, _+_, _-_, _≤_, _<_}
 use mathlib.Core.Path.{_≡_, sym, ap, _∙_}
 use borrow.Author.Needs.{needs}
@@ -8,8 +8,8 @@ use native.Mathlib.Nat.{zero-add}
 use lib.ListN.{getD}
 use denote.Ref.{now}
 use Rattle.framing.proofs.Stands.{all-same, one-other}
-use Rattle.framing.proofs.standing.few.Statement.{statement}
-use Rattle.framing.proofs.standing.few.Tie as tie
+use Rattle.framing.proofs.standing.part_stands.Statement.{statement}
+use Rattle.framing.proofs.standing.part_stands.Tie as tie
 
 abbrev Inv-loop : tie.InvT-loop
 Inv-loop boundary count piece at i₀ i = (i ≤ count) × ((y : ℕ) → y < i → getD piece (at + y) 0 ≡ getD boundary y 0)
@@ -54,8 +54,8 @@ returns-2 c =
     (all-same (now (a .boundary)) 0 (now (a .piece)) (a .at) (a .count) (search needs) (search needs)
     (λ y below. inv .1 y (omega arith) ∙ ap (λ (n : ℕ). getD (now (a .boundary)) n 0) (sym (zero-add y))))
 
-pub few-spec : {M : Type 1} → statement M
-few-spec =
+pub part-stands-spec : {M : Type 1} → statement M
+part-stands-spec =
     tie.close
     (tie.spec
     Inv-loop

@@ -1,4 +1,4 @@
--- `framing::standing::eight` meets its contract. The invariant of its loop: `same` says whether the first i of the eight are. Assumes nothing.
+-- `framing::standing::eight_stand` meets its contract. The invariant of its loop: `same` says whether the first i of the eight are. Assumes nothing.
 use Prim.Native.Nat.{_-_, _≤_}
 use mathlib.Core.Path.{_≡_, sym}
 use borrow.Author.Needs.{needs}
@@ -6,8 +6,8 @@ use native.Mathlib.Omega.{arith}
 use denote.Ref.{now}
 use Rattle.framing.specs.Standing.{sameAt}
 use Rattle.framing.proofs.Stands.{same-none, same-more}
-use Rattle.framing.proofs.standing.eight.Statement.{statement}
-use Rattle.framing.proofs.standing.eight.Tie as tie
+use Rattle.framing.proofs.standing.eight_stand.Statement.{statement}
+use Rattle.framing.proofs.standing.eight_stand.Tie as tie
 
 abbrev Inv-loop : tie.InvT-loop
 Inv-loop boundary from piece at same₀ i₀ same i = (i ≤ 8) × (same ≡ sameAt i boundary from piece at)
@@ -47,8 +47,8 @@ returns c =
     let all : c .before .loop .i ≡ 8 = omega arith in
     rw all at (c .before .loop .inv .1)
 
-pub eight-spec : {M : Type 1} → statement M
-eight-spec =
+pub eight-stand-spec : {M : Type 1} → statement M
+eight-stand-spec =
     tie.close
     (tie.spec
     Inv-loop
