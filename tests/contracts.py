@@ -5,9 +5,10 @@ from dataclasses import dataclass
 
 from reporting import TOP, crates_of, files, read
 
-# The brace of a body stands at the margin of `fn` where there is a contract, and behind the signature where there is none.
+# The brace of a body stands at the margin of `fn` where there is a contract, and behind the signature where there is none; a body may end in its line.
 FUNCTION = re.compile(
-    r'^( *)((?:pub(?:\(crate\))? )?(?:extern "C" )?fn (\w+)(?:<[^>]*>)?(\(.*?))(?:^\1| )\{(?:\}$|\n(.*?)^\1\})',
+    r'^( *)((?:#\[[^\n]*\]\s+(?://[^\n]*\s+)*)*)((?:pub(?:\(crate\))? )?(?:extern "C" )?fn (\w+)(?:<[^>]*>)?'
+    r'(\((?:[^\n]*?(?= \{[^\n⌝]*\}$)|.*?(?=(?:^\1| )\{(?:\}$|\n)))))(?:^\1| )\{([^\n]*(?=\}$)|\n.*?(?=^\1\}))',
     re.MULTILINE | re.DOTALL)
 IMPLEMENTATION = re.compile(r"^impl (\w+)", re.MULTILINE)
 REQUIRES = re.compile(r"\brequires\b")
@@ -25,7 +26,7 @@ class Function:
     owner: str  # the type that it is a method of, or ''
     name: str
     public: bool
-    contract: str  # as it is written, with the signature in front
+    contract: str  # as it is written, with attributes and the signature in front
     body: str
     asks: bool  # whether it has a `requires`
     equations: list  # (the result's name or '_', what is ensured of it)
@@ -62,9 +63,9 @@ def functions_of(crate, top=TOP):
         code, imports = read(source), imports_of(read(source))
         module = os.path.splitext(os.path.relpath(source, folder))[0].replace(os.sep, "::")
         for found in FUNCTION.finditer(code):
-            indent, contract, name, head, body = found.groups()
+            indent, attributes, contract, name, head, body = found.groups()
             yield Function(crate, os.path.relpath(source, top), "" if module == "lib" else module, owner_at(code, found.start(), indent), name,
-                           contract.startswith("pub "), contract, body or "",
+                           contract.startswith("pub "), attributes + contract, body,
                            bool(REQUIRES.search(head)), [(result, flat(clause)) for result, clause in ENSURES.findall(head)],
                            LENT.findall(head.split("ensures")[0]), imports)
 

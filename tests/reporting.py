@@ -36,7 +36,11 @@ def has_promises(path):
 
 def read(path):
     with open(path, encoding="utf-8") as file:
-        return file.read()
+        try:
+            return file.read()
+        except UnicodeDecodeError as fault:
+            fault.reason += " in " + path  # it says the byte alone
+            raise
 
 
 def report(checked):

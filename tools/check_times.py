@@ -13,7 +13,7 @@ program's compiling and its run. It is done in a copy, so that the checkout stay
 user and system time of all that it started. Compare figures of one machine only, and the clock only where nothing else ran.
 
 A log of the gate is what `{ time .ci/run; } 2>&1 | tee LOG` leaves: the last lines are those of bash's `time`.
-A bad argument: a word on standard error, and status 2. A crate that is not proved: what rt said, and status 1.
+A bad argument, or a file that cannot be read: a word on standard error, and status 2. A crate that is not proved: what rt said, and status 1.
 """
 import argparse
 import os
@@ -25,7 +25,7 @@ import sys
 import tempfile
 import time
 
-from checkouts import crates_of
+from checkouts import UNREADABLE, crates_of
 from cost import EDIT, PROVED, row
 from moved import crates_that_moved
 
@@ -167,8 +167,12 @@ def arguments(words):
 
 
 def main():
-    checkouts, named, given = arguments(sys.argv[1:])
-    wanted = named or (crates_that_moved(*checkouts) if checkouts else [])
+    try:
+        checkouts, named, given = arguments(sys.argv[1:])
+        wanted = named or (crates_that_moved(*checkouts) if checkouts else [])
+    except UNREADABLE as fault:
+        print("check_times.py: %s" % fault, file=sys.stderr)
+        sys.exit(2)
     try:
         if checkouts:
             table_of_checks(checkouts, wanted, given.rounds)

@@ -16,6 +16,8 @@ from contracts import functions_of  # noqa: E402
 from reporting import crates_of, edits_of, files, has_promises, read  # noqa: E402
 from unused_names import COMMENT, USE, definitions, imported, is_used, words_of  # noqa: E402
 
+UNREADABLE = (OSError, UnicodeDecodeError)  # what `read` raises where a file is a folder, or is no text
+
 KINDS = ("definitions", "promises", "public contracts", "private contracts", "proofs", "edits")
 # A thing may change its kind, as a function that is made public, and is the same thing for all that.
 FAMILY = {"definitions": "logic", "promises": "logic", "public contracts": "functions", "private contracts": "functions"}
@@ -24,10 +26,12 @@ QUOTED = r'"(?:\\.|[^"\\])*"'
 BLANKS = {".antt": re.compile(r"(%s)|(?:\s|(?:^|(?<=\s))--.*)+" % QUOTED, re.MULTILINE),
           ".rt": re.compile(r"(%s|b'(?:\\.|[^'\\])')|(?:\s|//.*)+" % QUOTED),
           ".edit": re.compile(r"()(?:\s|^#.*)+", re.MULTILINE)}
+NOTE = re.compile(r"(%s|b'(?:\\.|[^'\\])')|(?:^|[ \t]+)(?:--|//).*" % QUOTED, re.MULTILINE)
 DECLARED = re.compile(
-    r"^(?:pub(?:\(crate\))? )?(?:(?:struct|enum) (\w+)[^;{]*(?:;|\{\}|\{.*?^\})|(?:const|static|type) (\w+).*?;$)", re.MULTILINE | re.DOTALL)
+    r"^(?:#\[[^\n]*\]\s+)*(?:pub(?:\(crate\))? )?(?:(?:struct|enum) (\w+)[^;{]*(?:;|\{\}|\{.*?^\})|(?:const|static|type) (\w+).*?;$)", re.MULTILINE | re.DOTALL)
 MODULE = re.compile(r"( *)module .*")
 FIXITY = re.compile(r"^ *(infix[lr]? \d+) (\S+)$", re.MULTILINE)
+PUBLIC = re.compile(r"\bpub (?=extern |fn )")
 NAMING = re.compile(r"^(?:pub )?mod \w+$", re.MULTILINE)
 LEAST_LIKENESS = 0.5
 
@@ -41,7 +45,8 @@ class Thing:
     text: str
     body: str = ""  # of a function
     lines: tuple = ()  # of a proof, without those that are blank, a comment or an import
-    imports: frozenset = frozenset()  # where the names in it are taken from
+    imports: frozenset = frozenset()  # where the names in its text are taken from
+    imports_of_body: frozenset = frozenset()
 
     @property
     def family(self):
@@ -60,15 +65,20 @@ def plain(text, ending):
     return BLANKS[ending].sub(lambda met: met.group(1) or " ", text).strip()
 
 
+def bare(code):
+    """The lines of a file without comments. A `;` or an import that a comment has behind it is found by its line's end."""
+    return NOTE.sub(lambda met: met.group(1) or "", code)
+
+
 def imports_in(text, code):
-    """The imports of a file that a text in it uses, each with its name there and here."""
+    """The imports of a bare file that a text in it uses, each with its name there and here."""
     found, words = set(), words_of(text)
     for _, path, names, alias in USE.findall(code):
-        if alias:
-            found |= {(path, alias)} if alias + "." in text else set()
+        if names:
+            found |= {(path, there, here) for there, here in imported(names) if is_used(here, words)}
         else:
-            listed = imported(names) if names else [("", path.split("::")[-1])]
-            found |= {(path, there, here) for there, here in listed if is_used(here, words)}
+            here = alias or re.split(r"::|\.", path)[-1]
+            found |= {(path, here)} if re.search(r"(?<![\w·′-])%s(?![\w·′-])" % re.escape(here), text) else set()
     return frozenset(found)
 
 
@@ -95,11 +105,11 @@ def declarations(text):
 
 def logic_of(crate, folder):
     for path in files(folder, "specs", "**", "*.antt"):
-        kind, code = "promises" if has_promises(path) else "definitions", read(path)
-        for name, text in declarations(code):
+        kind, code = "promises" if has_promises(path) else "definitions", bare(read(path))
+        for name, text in declarations(read(path)):
             yield Thing(kind, crate, os.path.relpath(path, folder), name, text, imports=imports_in(text, code))
     for path in files(folder, "src", "**", "*.rt"):
-        code = read(path)
+        code = bare(read(path))
         for met in DECLARED.finditer(code):
             text = plain(met.group(0), ".rt")
             yield Thing("definitions", crate, os.path.relpath(path, folder), met.group(1) or met.group(2), text, imports=imports_in(text, code))
@@ -109,14 +119,17 @@ def contracts_of(crate, folder, top):
     for function in functions_of(crate, top):
         kind = "public contracts" if function.public else "private contracts"
         name = "::".join(part for part in (function.owner, function.name) if part)
-        path, text = os.path.join(top, function.source), plain(function.contract, ".rt")
-        yield Thing(kind, crate, os.path.relpath(path, folder), name, text, plain(function.body, ".rt"), imports=imports_in(text, read(path)))
+        path = os.path.join(top, function.source)
+        # The type that it is a method of belongs to it; whether it is public is its kind.
+        text, body = plain(function.owner + " " + PUBLIC.sub("", function.contract, count=1), ".rt"), plain(function.body, ".rt")
+        code = bare(read(path))
+        yield Thing(kind, crate, os.path.relpath(path, folder), name, text, body, imports=imports_in(text, code), imports_of_body=imports_in(body, code))
 
 
 def proofs_of(crate, folder):
     """A proof of a function has its name, with the module in front; any other has that of its file."""
     for path in files(folder, "proofs", "**", "*.antt"):
-        code = read(path)
+        code = bare(read(path))
         lines = tuple(filter(None, (plain(line, ".antt") for line in NAMING.sub("", USE.sub("", code)).split("\n"))))
         text = " ".join(lines)
         file = os.path.relpath(path, folder)
@@ -128,16 +141,25 @@ def proofs_of(crate, folder):
 def edits_of_crate(crate, folder):
     for path in files(folder, "must-fail", "*.edit"):
         for label, text in edits_of(os.path.splitext(os.path.basename(path))[0], read(path)):
-            yield Thing("edits", crate, os.path.relpath(path, folder), label.split("/")[-1], plain(text, ".edit"))
+            name = label.split("/")[-1]
+            yield Thing("edits", crate, os.path.relpath(path, folder), name, name + " " + plain(text, ".edit"))
 
 
 def things_of(top):
-    """What the crates of a checkout hold, by key, in the order of crates.txt and of the files."""
-    found = {}
+    """What the crates of a checkout hold, in the order of crates.txt and of the files."""
+    found = []
     for crate in crates_of(top):
         folder = os.path.join(top, "crates", crate)
-        for thing in (*logic_of(crate, folder), *contracts_of(crate, folder, top), *proofs_of(crate, folder), *edits_of_crate(crate, folder)):
-            found[thing.key] = thing
+        found += [*logic_of(crate, folder), *contracts_of(crate, folder, top), *proofs_of(crate, folder), *edits_of_crate(crate, folder)]
+    return found
+
+
+def counted(mark, things):
+    """The things by their mark, with a running number: a name may stand twice in a file, in two modules."""
+    found, times = {}, collections.Counter()
+    for thing in things:
+        times[mark(thing)] += 1
+        found[mark(thing), times[mark(thing)]] = thing
     return found
 
 
@@ -163,10 +185,14 @@ def met_by(mark, gone, come, fits):
 def paired(old, new):
     """(before, after) of each thing of two checkouts; None stands for the one that is not there.
 
+    What has the same name in the same file is one thing, and before that, what has the same text too.
     What is gone from one place and new in another is one thing if its text is the same, or if its name is and the texts are alike.
     """
-    pairs = [(old[key], new[key]) for key in new if key in old]
-    gone, come = [old[key] for key in old if key not in new], [new[key] for key in new if key not in old]
+    gone, come, pairs = old, new, []
+    for mark in (lambda thing: (thing.key, thing.text), lambda thing: thing.key):
+        before, after = counted(mark, gone), counted(mark, come)
+        pairs += [(before[at], after[at]) for at in after if at in before]
+        gone, come = [before[at] for at in before if at not in after], [after[at] for at in after if at not in before]
     pairs += met_by(lambda thing: (thing.family, thing.name, thing.text), gone, come, lambda before, after: True)
     pairs += met_by(lambda thing: (thing.family, thing.text), gone, come, lambda before, after: True)
     pairs += met_by(lambda thing: (thing.family, thing.name.split("::")[-1]), gone, come, alike)

@@ -3,29 +3,33 @@
 
 OLD and NEW are folders with a crates.txt. What is compared, and what counts as a move, stands at the top of what is printed (LEGEND, below);
 how a thing is found again that was carried to another file or crate, in checkouts.py. Nothing in either folder is written to.
-A bad argument: a word on standard error, and status 2.
+A bad argument, or a file that cannot be read: a word on standard error, and status 2.
 """
 import collections
 import difflib
 import os
 import sys
 
-from checkouts import KINDS, crates_of, paired, things_of
+from checkouts import FAMILY, KINDS, UNREADABLE, crates_of, paired, things_of
 
 LEGEND = """## What moved
 
-`tools/moved.py OLD NEW` made this from two checkouts. It compares texts; comments, white space and imports do not count.
+`tools/moved.py OLD NEW` made this from two checkouts. It compares texts; comments and white space do not count. Not looked at: files
+of other folders than these, `mod` lines, and what a `pub use` hands on.
 
 - A *definition* is a declaration of `specs/`, with the heads of the modules that it stands in, or a type or constant of `src/`; a *promise* is a
   declaration of a file of promises (docs/ARCHITECTURE.md, "Where things stand in a crate").
-- A *contract* is a function's signature, `requires` and `ensures`, *public* if it is marked `pub`; *code* is the body of a function that both have.
+- A *contract* is a function's attributes, signature, `requires` and `ensures`, *public* if it is marked `pub`; *code* is the body of a function that
+  both have.
 - A *proof* is a file of `proofs/`, by the name of its function or its own, with the lines added and removed that are neither blank nor only a comment
   or an import. An *edit* is one of `must-fail/`.
 - *Arrived* is what has the same text in another file or crate, *left* what now stands in another crate. What did not move may cite what did; *with
-  other imports* is what takes a name from elsewhere.
+  other imports* is what has the same text and takes a name from elsewhere, which for proofs is no move.
 """
 COLUMNS = KINDS[:4] + ("code",) + KINDS[4:]
-STATES = ("changed", "new", "gone", "arrived", "left", "same")
+OTHER_IMPORTS = "with other imports"
+NO_LONGER = {kind: "no longer " + kind for kind in FAMILY}
+STATES = ("changed", *NO_LONGER.values(), "new", "gone", "arrived", "left", OTHER_IMPORTS, "same")
 MOST_ARRIVED = 12  # names of one file: their texts did not change, so that more of them say nothing
 
 
@@ -44,7 +48,22 @@ def state_of(before, after):
         return "gone" if before else "new"
     if before.text != after.text:
         return "changed"
-    return "same" if before.place == after.place else "arrived"
+    if before.kind != after.kind:
+        return NO_LONGER[before.kind]
+    if before.place != after.place:
+        return "arrived"
+    return OTHER_IMPORTS if other_imports(before, after) else "same"
+
+
+def other_imports(before, after):
+    """Whether a thing takes a name from elsewhere. Proofs often do, and it says little: only their number is told."""
+    return before.imports != after.imports and after.kind != "proofs"
+
+
+def state_of_code(before, after):
+    if before.body != after.body:
+        return "changed"
+    return "same" if before.imports_of_body == after.imports_of_body else OTHER_IMPORTS
 
 
 def told_of(before, after):
@@ -55,7 +74,7 @@ def told_of(before, after):
         if before.crate != after.crate:
             yield before.crate, before.kind, "left", before, after
         if here.family == "functions":
-            yield here.crate, "code", "same" if before.body == after.body else "changed", before, after
+            yield here.crate, "code", state_of_code(before, after), before, after
 
 
 class Told:
@@ -75,18 +94,18 @@ class Told:
     def moved(self, crate, columns=COLUMNS):
         return any(set(self.counts(crate, column)) - {"same"} for column in columns)
 
-    def imports(self, crate, column):
-        """How many things that did not move take a name from elsewhere."""
-        return sum(1 for before, after in self.found[crate, column, "same"] if before.imports != after.imports and column != "code")
+    def imports(self, crate):
+        """How many proofs that did not move take a name from elsewhere."""
+        return sum(1 for before, after in self.found[crate, "proofs", "same"] if before.imports != after.imports)
 
 
 def crates_that_moved(old, new):
-    """The crates of NEW in which something moved that a check reads, and those that stand on one."""
+    """The crates of NEW in which something moved that a check reads, as it does the imports of a proof too, and those that stand on one."""
     told = Told(old, new)
     checked = [column for column in COLUMNS if column != "edits"]
     met = []
     for crate, below in told.after.items():  # crates.txt has each behind what it stands on
-        if told.moved(crate, checked) or told.before.get(crate) != below or set(met).intersection(below):
+        if told.moved(crate, checked) or told.imports(crate) or told.before.get(crate) != below or set(met).intersection(below):
             met.append(crate)
     return met
 
@@ -104,9 +123,9 @@ def table(told):
         for crate in moved:
             yield "| %s | %s |" % (crate, " | ".join(cell(told.counts(crate, column)) for column in COLUMNS))
         yield ""
-    imports = [crate for crate in still if any(told.imports(crate, column) for column in COLUMNS)]
+    imports = [crate for crate in still if told.imports(crate)]
     if still:
-        yield "Nothing moved in: %s.%s" % (", ".join(still), " Of these with other imports: %s." % ", ".join(imports) if imports else "")
+        yield "Nothing moved in: %s.%s" % (", ".join(still), " Of these, proofs with other imports in: %s." % ", ".join(imports) if imports else "")
         yield ""
 
 
@@ -129,10 +148,12 @@ def whence(before, after):
 
 
 def name_of(column, state, before, after):
-    """A thing's name, with the lines of a proof, and where it came from if it changed on the way."""
+    """A thing's name, with the lines of a proof, and what else moved of it: its kind, where it stands, its imports."""
     notes = [lines_of(before, after)] if column == "proofs" and state != "arrived" else []
-    if state == "changed" and before.place != after.place:
-        notes.append("from " + whence(before, after))
+    if before and after and state != "arrived":
+        notes += ["before: " + before.kind] if state == "changed" and column == after.kind != before.kind else []
+        notes += ["from " + whence(before, after)] if before.place != after.place else []
+        notes += [OTHER_IMPORTS] if state == NO_LONGER.get(before.kind) and other_imports(before, after) else []
     return "`%s`%s" % ((after or before).name, " (%s)" % ", ".join(notes) if notes else "")
 
 
@@ -142,7 +163,7 @@ def group_of(column, state, before, after):
         return "" if column == "proofs" else "in %s " % (after or before).file
     if column in ("proofs", "edits") and before.crate != after.crate:
         return "from %s/%s: " % (before.crate, before.file.split("/")[0])
-    return "from %s to %s: " % (whence(before, after), after.file)
+    return "from %s to %s%s: " % (whence(before, after), after.file, ", " + OTHER_IMPORTS if other_imports(before, after) else "")
 
 
 def names_told(told, crate, column, state):
@@ -155,14 +176,14 @@ def names_told(told, crate, column, state):
     words = []
     for place, names in sorted(groups.items()):
         names.sort()
-        few = state != "arrived" or len(names) <= MOST_ARRIVED
+        few = state != "arrived" or len(names) <= MOST_ARRIVED or OTHER_IMPORTS in place
         words.append(place + (", ".join(names) if few else str(len(names))))
     return "; ".join(words)
 
 
 def same_told(told, crate, column):
-    """How many did not move, whether that is all of them, and how many of them take a name from elsewhere."""
-    counts, imports = told.counts(crate, column), told.imports(crate, column)
+    """How many did not move, whether that is all of them, and how many proofs of them take a name from elsewhere."""
+    counts, imports = told.counts(crate, column), told.imports(crate) if column == "proofs" else 0
     if "same" not in counts:
         return ""
     notes = ["all"] if set(counts) == {"same"} else []
@@ -201,7 +222,11 @@ def main(words):
         if not os.path.isfile(os.path.join(word, "crates.txt")):
             print("moved.py: %s is no checkout: it has no crates.txt" % word, file=sys.stderr)
             return 2
-    print(page(*map(os.path.abspath, words)))
+    try:
+        print(page(*map(os.path.abspath, words)))
+    except UNREADABLE as fault:
+        print("moved.py: %s" % fault, file=sys.stderr)
+        return 2
     return 0
 
 
