@@ -49,6 +49,36 @@ def stream_sown_about_blocks(rng, boundary, length):
     return stream[begin:begin + length]
 
 
+def random_lure_with_right_ends(rng, boundary):
+    """First and last byte are right, and the middle one mostly, if any other is left to be wrong: one, or some."""
+    k = len(boundary)
+    if k < 3:
+        return boundary[:1]
+    places = [place for place in range(1, k - 1) if place != k // 2 or k == 3 or rng.random() < 0.2]
+    for place in rng.sample(places, rng.choice((1, 1, rng.randint(1, len(places))))):
+        boundary = with_wrong_byte(boundary, place)
+    return boundary
+
+
+def item_behind_blocks_in_vain(rng, boundary):
+    """One to three blocks, most with a lure or two, then the boundary; mostly at the next block's first place.
+
+    Whoever begins a place late behind each block that has a lure misses the boundary as many places further on.
+    """
+    k, block, blocks = len(boundary), rng.choice(BLOCKS), rng.randint(1, 3)
+    lured = [number for number in range(blocks) if number == blocks - 1 or rng.random() < 0.6]
+    place = blocks * block + rng.choice((0, len(lured) - 1, len(lured) - 1, 1, block - 1))
+    item = bytearray(random_stretch(rng, random_filler(rng, boundary), place))
+    for number in lured:
+        for _ in range(rng.randint(1, 2)):
+            at = min(number * block + rng.randint(0, block - 1), place - k)
+            lure = random_lure_with_right_ends(rng, boundary)
+            item[at:at + len(lure)] = lure
+    if rng.random() < 0.2:
+        item[-1:] = boundary[:1]  # where a boundary ends in a run, this and the boundary are a lure
+    return bytes(item) + boundary
+
+
 def cut_in_lengths(stream, lengths):
     """Pieces of these lengths in turn, as far as the stream goes; the last one is what is left."""
     ends = itertools.takewhile(lambda end: end < len(stream), itertools.accumulate(lengths))
@@ -87,6 +117,17 @@ def pieces_ending_about_blocks(link, rng, k):
         stream += filler * (ends[-1] - len(stream))
     link.new_store(random_store_length(rng), rng.randint(0, 99))
     check_stream(link, boundary, cut_at(stream, ends[1:]))
+
+
+def blocks_in_vain(link, rng, k):
+    """Each call begins right behind an item; then the same items in pieces that end with one or a little behind."""
+    boundary = random_boundary_for_blocks(rng, k)
+    items = [item_behind_blocks_in_vain(rng, boundary) for _ in range(12)]
+    stream = b"".join(items) + random_stretch(rng, random_filler(rng, boundary), rng.randint(0, 100))
+    ends = [end + rng.choice((0, 0, 1, k - 1)) for end in itertools.accumulate(len(item) for item in items)]
+    for pieces in [[stream], cut_at(stream, [min(end, len(stream)) for end in ends])]:
+        link.new_store(random_store_length(rng), rng.randint(0, 99))
+        check_stream(link, boundary, pieces)
 
 
 def pieces_of_every_length(link, rng, k):

@@ -4,14 +4,20 @@ A search in blocks can lose what stands at a block's last or first place, in the
 that another way of searching has looked at. A line has many calls: each is a place of its own.
 """
 
+import itertools
+
 from framing import MESSAGE_LIMIT
-from framing_blocks import BORDERS, false_starts, one_bit_off, places_around, self_overlapping, with_wrong_byte
+from framing_blocks import (BLOCKS, BORDERS, false_starts, lures_with_right_ends, one_bit_off, places_around,
+                            self_overlapping, with_wrong_byte)
 from framing_vectors import Session, fed, in_pieces, spelled
 
 BOUNDARIES = (b"#", b"\r\n", b"</a>", b"<!--8-->", b"abcdefghijklmno", b"abcdefghijklmnop")
 NEXT_TO_BORDERS = places_around(BORDERS, 1)
 ABOUT_BORDERS = places_around(BORDERS, 2)
 REST = b"z" * 90
+OVERLAPPING = {3: "ab", 4: "ab", 5: "aab", 8: "fibonacci", 12: "fibonacci", 16: "a-b"}  # a boundary for each length
+BOUNDARIES_IN_VAIN = [boundary for k, name in OVERLAPPING.items()
+                      for boundary in (b"abcdefghijklmnop"[:k], self_overlapping(k)[name])]
 
 
 def filler(number, length):
@@ -159,6 +165,80 @@ def store_ends_within_a_block():
         yield session.vector()
 
 
+def sown(boundary, place, lures, number):
+    """A piece up to the end of the boundary, which begins at the place; before it stand the lures, each at its own."""
+    piece = bytearray(filler(number, 1) * place + boundary)
+    for at, lure in lures.items():
+        piece[at:at + len(lure)] = lure
+    if piece.find(boundary) != place:
+        raise ValueError("a boundary begins before place %d in %s" % (place, bytes(piece)))
+    return bytes(piece)
+
+
+def place_of_lure(boundary, lure, block, place, turn):
+    """In the block before the one that the place is in: the first place, a middle one, or the last that has room."""
+    begin = place // block * block - block
+    # A lure right before a boundary may make another boundary with it.
+    apart = 0 if (lure + boundary).find(boundary) == len(lure) else 1
+    room = min(block - 1, place - apart - len(lure) - begin)
+    return begin + (0, room // 2, room)[turn % 3]
+
+
+def blocks_in_vain():
+    """A lure makes a block worth a closer look, and it holds nothing. The next block has the boundary: at its first
+    place, behind every lure of a short boundary and some of a long one in turn; at its second place; at its last."""
+    for boundary in BOUNDARIES_IN_VAIN:
+        lures = lures_with_right_ends(boundary)
+        turns = itertools.cycle(lures)
+        for block in BLOCKS:
+            pieces = []
+            for border in (block, 2 * block, 3 * block):
+                for step in [0] * (len(lures) if len(boundary) < 8 else 3) + [1, block - 1]:
+                    lure, turn = next(turns), len(pieces) + border // block
+                    at = place_of_lure(boundary, lure, block, border + step, turn)
+                    pieces.append(sown(boundary, border + step, {at: lure}, turn) + REST)
+            yield called_with("in-vain-%s-%d" % (boundary.decode(), block), boundary, pieces)
+
+
+def lures_over_borders():
+    """The lure begins at a block's last place and goes on as the boundary, which begins at the next block's first."""
+    for k in OVERLAPPING:
+        boundary = b"a" + b"b" * (k - 1)  # with an `a` before it all but the second byte is right a place too soon
+        yield called_with("in-vain-over-border-k%d" % k, boundary, [
+            filler(number, 1) * (number * block - 1) + boundary[:1] + boundary + REST
+            for block in BLOCKS for number in (1, 2, 3)])
+
+
+def two_blocks_in_vain():
+    """One after the other. Whoever begins a place late behind each of them misses the second place, not the first."""
+    for boundary in BOUNDARIES_IN_VAIN:
+        turns = itertools.cycle(lures_with_right_ends(boundary))
+        pieces = []
+        for number, block in enumerate(BLOCKS):
+            for place in ((2 + number % 2) * block, (2 + number % 2) * block + 1):
+                first, second, turn = next(turns), next(turns), len(pieces)
+                at = place_of_lure(boundary, second, block, place, turn)
+                first_at = place // block * block - 2 * block + (block - len(boundary)) // 2
+                pieces.append(sown(boundary, place, {first_at: first, at: second}, turn) + REST)
+        yield called_with("in-vain-twice-%s" % boundary.decode(), boundary, pieces)
+
+
+def last_blocks_in_vain():
+    """The lure is in the last whole block, the boundary right behind that block. The piece ends with the boundary, a
+    byte behind it, as far behind as leaves no room for another, or a byte before its end."""
+    for boundary in BOUNDARIES_IN_VAIN:
+        k = len(boundary)
+        turns = itertools.cycle(lures_with_right_ends(boundary))
+        pieces = []
+        for block in BLOCKS:
+            for number, behind in enumerate((0, 1, k - 1, -1)):
+                lure, turn, border = next(turns), len(pieces), block * (1 + number % 3)
+                at = place_of_lure(boundary, lure, block, border, turn)
+                pieces.append((sown(boundary, border, {at: lure}, turn) + REST)[:border + k + behind])
+        yield called_with("in-vain-last-%s" % boundary.decode(), boundary, pieces)
+
+
 BLOCK_GROUPS = (false_starts_at_borders, boundaries_at_borders, wrong_bytes_at_borders, ends_at_borders,
                 pieces_of_whole_blocks, fillers_one_bit_off, seams_before_borders, blocks_counted_from_seams,
-                overlaps_at_borders, store_ends_within_a_block)
+                overlaps_at_borders, store_ends_within_a_block, blocks_in_vain, lures_over_borders,
+                two_blocks_in_vain, last_blocks_in_vain)

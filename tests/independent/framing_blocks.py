@@ -35,6 +35,12 @@ def false_starts(boundary):
     return {name: lure for lure, name in names.items()}
 
 
+def lures_with_right_ends(boundary):
+    """All of the boundary but one byte, which is neither the first nor the last; then these two right alone."""
+    return [with_wrong_byte(boundary, place) for place in range(1, len(boundary) - 1)] + (
+        [false_starts(boundary)["ends"]] if len(boundary) > 3 else [])
+
+
 def self_overlapping(k):
     """By name, boundaries of k bytes that look alike some places further on; short ones may be equal."""
     return {"a": b"a" * k, "a-b": b"a" * (k - 1) + b"b", "a-ba": (b"a" * k + b"ba")[-k:], "aab": (b"aab" * k)[:k],

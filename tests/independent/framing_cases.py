@@ -6,8 +6,8 @@ overlap all the time; the driver fills stores with bytes that no such stream con
 
 from checks import Difference
 from framing import COUNT_CAP, MESSAGE_LIMIT, NO_ITEM, PLACES_NEEDED, STORE_NEEDED, TOO_LONG
-from framing_block_cases import (blocks_from_given_pair, false_starts_about_blocks, pieces_ending_about_blocks,
-                                 pieces_of_every_length, runs_of_own_letters)
+from framing_block_cases import (blocks_from_given_pair, blocks_in_vain, false_starts_about_blocks,
+                                 pieces_ending_about_blocks, pieces_of_every_length, runs_of_own_letters)
 from framing_streams import (LONGEST_STORE, check_stream, cut_at, random_boundary, random_cuts, random_letters,
                              random_store_length, random_stream)
 
@@ -149,13 +149,13 @@ def anything_at_all(link, rng, k):
 
 STREAM_CASES = (short_stream_every_cut, longer_stream, bytes_of_every_value, stream_about_limits,
                 stream_by_bytes_over_limit, false_starts_about_blocks, pieces_ending_about_blocks,
-                pieces_of_every_length, runs_of_own_letters)
+                blocks_in_vain, pieces_of_every_length, runs_of_own_letters)
 
 # A round of cases; a round for each boundary length from 1 to 16 in turn. Cheap and telling ones come more often.
 ROUND = (short_stream_every_cut,) * 5 + (longer_stream,) * 2 + (bytes_of_every_value,) + (stream_about_limits,) * 4 + (
     stream_by_bytes_over_limit,) + (given_pairs,) * 3 + (long_piece_from_given_pair, stream_over_cap) + (
-    anything_at_all,) * 2 + (false_starts_about_blocks, pieces_ending_about_blocks, pieces_of_every_length,
-                             runs_of_own_letters, blocks_from_given_pair)
+    anything_at_all,) * 2 + (false_starts_about_blocks, pieces_ending_about_blocks, blocks_in_vain,
+                             pieces_of_every_length, runs_of_own_letters, blocks_from_given_pair)
 
 
 def random_case(number):
