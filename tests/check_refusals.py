@@ -18,7 +18,7 @@ AT = re.compile(r"^at: (\S+) (\S+)$", re.MULTILINE)
 ERROR = re.compile(r"((?:src|specs|proofs)/\S+?):\d+:\d+: error: `([^`]+)`: (.*)")
 UNPROVED = re.compile(r"^fn (\S+): no proof: .*`search` does not close ([^;\n]*)", re.MULTILINE)
 FOLLOWS = "was not admitted"
-UNFIT = re.compile(r"that can be named from here|expected type `tie\.Need")
+UNFIT = re.compile(r"that can be named from here|expected type `tie\.Need|has no field `")
 
 
 def refusals(log):

@@ -2,7 +2,7 @@
 -- the boundary. Then matching on from it over a piece p cuts p as matching over all of h and then p does (`goes-on`). Assumes nothing.
 use mathlib.Core.Path.{_≡_, refl, sym, ap, _∙_}
 use mathlib.Core.Bool.{Bool, true, false, cond}
-use mathlib.Core.List.{List, _++_, append-assoc, append-nil}
+use mathlib.Core.List.{List, [], _++_, append-assoc, append-nil}
 use Prim.Native.Nat.{ℕ, zero, suc, _+_, _-_, _≤_, _<_}
 use native.Mathlib.Omega.{arith}
 use lib.ListN.{length, take, drop, length-append, length-take, take-append-drop}
@@ -36,8 +36,14 @@ ends-glue u h q d e rest =
     (e .0, ap (λ (l : List ℕ). l ++ q) (e .1) ∙ append-assoc (e .0) (take d u) q ∙ ap (λ (l : List ℕ). e .0 ++ (take d u ++ l)) (sym rest) ∙ ap (λ (l : List ℕ). e .0 ++ l) (take-append-drop d u))
 
 -- whether u, which is no longer than q, is a tail of `h ++ q` does not depend on h
-pub ends-short : (u h h′ q : List ℕ) → length u ≤ length q → Ends u (h ++ q) → Ends u (h′ ++ q)
+ends-short : (u h h′ q : List ℕ) → length u ≤ length q → Ends u (h ++ q) → Ends u (h′ ++ q)
 ends-short u h h′ q short e = ends-trans u q (h′ ++ q) (ends-within u q (h ++ q) e (h, refl) short) (h′, refl)
+
+pub tail-alone : (u h q : List ℕ) → length u ≤ length q → endsWith u (h ++ q) ≡ endsWith u q
+tail-alone u h q short =
+    iff-same _ _
+    (λ t. test-of-ends u q (ends-short u h [] q short (ends-of-test u (h ++ q) t)))
+    (λ t. test-of-ends u (h ++ q) (ends-short u [] h q short (ends-of-test u q t)))
 
 module _ (b h : List ℕ) (some : 0 < length b) where
   abbrev held : List ℕ
@@ -59,9 +65,7 @@ module _ (b h : List ℕ) (some : 0 < length b) where
       go : (r : Bool) → leb (length (take t b)) (length q) ≡ r → endsWith (take t b) (h ++ q) ≡ endsWith (take t b) (held ++ q)
       go true e =
           let short = leb-true _ _ e in
-          iff-same _ _
-          (λ p. test-of-ends _ _ (ends-short (take t b) h held q short (ends-of-test _ _ p)))
-          (λ p. test-of-ends _ _ (ends-short (take t b) held h q short (ends-of-test _ _ p)))
+          tail-alone (take t b) h q short ∙ sym (tail-alone (take t b) held q short)
       go false e =
           let long : length q ≤ length (take t b) = omega (arith, leb-false (length (take t b)) (length q) e) in
           let less : d < length b = omega (arith, size) in

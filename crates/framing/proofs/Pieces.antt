@@ -2,7 +2,7 @@
 -- and `seam-passed` where a match is held, by the piece's first bytes alone. Assumes nothing.
 use mathlib.Core.Path.{_≡_, refl, sym, ap, _∙_}
 use mathlib.Core.Bool.{Bool, true, false, cond}
-use mathlib.Core.List.{List, [], _++_}
+use mathlib.Core.List.{List, _++_}
 use Prim.Native.Nat.{ℕ, suc, _+_, _-_, _≤_, _<_}
 use native.Mathlib.Nat.{sub-zero, zero-add}
 use native.Mathlib.Omega.{arith}
@@ -12,14 +12,13 @@ use lib.Dec.{leb, ltb}
 use borrow.Author.Tests.{le-leb, lt-leb, leb-true, leb-false, ltb-true, ltb-false}
 use Rattle.laws.specs.Search.{least}
 use Rattle.laws.specs.Bytes.{sameBytes, endsWith}
-use Rattle.laws.proofs.Tests.{iff-same, true-false}
 use Rattle.laws.proofs.Search.{least-is, least-none, least-same, least-skip, least-below, least-passes, greatest-same}
-use Rattle.laws.proofs.Tails.{ends-of-test, test-of-ends, too-long}
+use Rattle.laws.proofs.Tails.{too-long}
 use Rattle.framing.specs.declared.Cut.{Cut}
 use Rattle.framing.specs.Cutting.{longestMatch, itemEnd, cutOver, cutOf}
 use Rattle.framing.specs.Standing.{sameAt, standsAt}
 use Rattle.framing.proofs.Matcher.{length-held, front}
-use Rattle.framing.proofs.GoesOn.{ends-short, cutInto, cut-at}
+use Rattle.framing.proofs.GoesOn.{tail-alone, cutInto, cut-at}
 use Rattle.framing.proofs.Stands.{First}
 
 -- the first j bytes of b are a tail of p where they stand at its end
@@ -71,6 +70,15 @@ module _ (b p : List ℕ) (some : 0 < length b) (room : length b ≤ length p) w
 
 -- ---- a match that is held
 
+-- a cut ends an item exactly where the item's end lies within what is matched over
+ended-is : (b p : List ℕ) (n : ℕ) (w : List ℕ) → cutOver b p n w .ended ≡ leb (itemEnd b w) (length w)
+unfolding cutOver
+ended-is b p n w = go (leb (itemEnd b w) (length w))
+  where
+    go : (t : Bool) → cond {A = Cut} t (record { ended = true; taken = itemEnd b w - n; matched = 0 }) (record { ended = false; taken = length p; matched = longestMatch (length b) b w }) .ended ≡ t
+    go true = refl
+    go false = refl
+
 module _ (b p : List ℕ) (m : ℕ) (held : m < length b) (j : ℕ) (within : j ≤ length p) where
   -- what is matched over, as far as the piece's first j bytes go
   size-front : length (take m b ++ take j p) ≡ m + j
@@ -79,52 +87,32 @@ module _ (b p : List ℕ) (m : ℕ) (held : m < length b) (j : ℕ) (within : j 
   same-front : (e : ℕ) → e ≤ m + j → take e (take m b ++ take j p) ≡ take e (take m b ++ p)
   same-front e low = ap (take e) (sym (front b p m held j)) ∙ take-take e (m + j) (take m b ++ p) low
 
+  size-whole : length (take m b ++ p) ≡ m + length p
+  size-whole = omega (arith, length-append (take m b) p, length-held b p m held)
+
   -- an item that ends within them ends there in the whole piece
   pub seam-ended : cutOf b (take j p) m .ended ≡ true → cutOf b (take j p) m ≡ cutOf b p m
   unfolding cutOf cutOver itemEnd
-  seam-ended ended = go (leb (itemEnd b v) (length v)) refl ended
-    where
-      v : List ℕ
-      v = take m b ++ take j p
-
-      w : List ℕ
-      w = take m b ++ p
-
-      go : (t : Bool) → leb (itemEnd b v) (length v) ≡ t
-          → cond {A = Cut} t (record { ended = true; taken = itemEnd b v - m; matched = 0 }) (record { ended = false; taken = length (take j p); matched = longestMatch (length b) b v }) .ended ≡ true
-          → cutOver b (take j p) m v ≡ cutOver b p m w
-      go true e on =
-          let inside = leb-true (itemEnd b v) (length v) e in
-          let passes = least-passes (λ e. endsWith b (take e v)) (suc (length v)) (omega arith) in
-          let end : itemEnd b w ≡ itemEnd b v =
-          least-is (λ e. endsWith b (take e w)) (suc (length w)) (itemEnd b v) (omega (arith, size-front, length-append (take m b) p, length-held b p m held))
-          (ap (endsWith b) (sym (same-front (itemEnd b v) (omega (arith, size-front)))) ∙ passes)
-          (λ i below. ap (endsWith b) (sym (same-front i (omega (arith, size-front)))) ∙ least-below (λ e. endsWith b (take e v)) (suc (length v)) i below) in
-          rw (e, end, le-leb (itemEnd b v) (length w) (omega (arith, size-front, length-append (take m b) p, length-held b p m held)))
-      go false e off = absurd (true-false refl (sym off))
+  seam-ended ended =
+      let v = take m b ++ take j p in
+      let w = take m b ++ p in
+      let is : leb (itemEnd b v) (length v) ≡ true = sym (ended-is b (take j p) m v) ∙ ended in
+      let inside = leb-true (itemEnd b v) (length v) is in
+      let passes = least-passes (λ e. endsWith b (take e v)) (suc (length v)) (omega arith) in
+      let end : itemEnd b w ≡ itemEnd b v =
+      least-is (λ e. endsWith b (take e w)) (suc (length w)) (itemEnd b v) (omega (arith, size-front, size-whole))
+      (ap (endsWith b) (sym (same-front (itemEnd b v) (omega (arith, size-front)))) ∙ passes)
+      (λ i below. ap (endsWith b) (sym (same-front i (omega (arith, size-front)))) ∙ least-below (λ e. endsWith b (take e v)) (suc (length v)) i below) in
+      rw (is, end, le-leb (itemEnd b v) (length w) (omega (arith, size-front, size-whole)))
 
   -- and where none does, none ends in the whole piece so early
   pub seam-free : cutOf b (take j p) m .ended ≡ false → (e : ℕ) → e ≤ m + j → endsWith b (take e (take m b ++ p)) ≡ false
   unfolding cutOf cutOver itemEnd
-  seam-free free e low = go (leb (itemEnd b v) (length v)) refl free
-    where
-      v : List ℕ
-      v = take m b ++ take j p
-
-      go : (t : Bool) → leb (itemEnd b v) (length v) ≡ t
-          → cond {A = Cut} t (record { ended = true; taken = itemEnd b v - m; matched = 0 }) (record { ended = false; taken = length (take j p); matched = longestMatch (length b) b v }) .ended ≡ false
-          → endsWith b (take e (take m b ++ p)) ≡ false
-      go true is on = absurd (true-false refl on)
-      go false is off =
-          ap (endsWith b) (sym (same-front e low))
-          ∙ least-below (λ e. endsWith b (take e v)) (suc (length v)) e (omega (arith, size-front, leb-false (itemEnd b v) (length v) is))
-
--- a tail no longer than q: what stands before q has no say
-tail-alone : (u h q : List ℕ) → length u ≤ length q → endsWith u (h ++ q) ≡ endsWith u q
-tail-alone u h q short =
-    iff-same _ _
-    (λ t. test-of-ends u q (ends-short u h [] q short (ends-of-test u (h ++ q) t)))
-    (λ t. test-of-ends u (h ++ q) (ends-short u [] h q short (ends-of-test u q t)))
+  seam-free free e low =
+      let v = take m b ++ take j p in
+      let is : leb (itemEnd b v) (length v) ≡ false = sym (ended-is b (take j p) m v) ∙ free in
+      ap (endsWith b) (sym (same-front e low))
+      ∙ least-below (λ e. endsWith b (take e v)) (suc (length v)) e (omega (arith, size-front, leb-false (itemEnd b v) (length v) is))
 
 -- a match that does not come to be the boundary within k - 1 bytes is forgotten after them
 module _ (b p : List ℕ) (m : ℕ) (held : m < length b) (room : length b ≤ length p)
