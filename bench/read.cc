@@ -4,7 +4,8 @@
  *   read --faults     a table of faulty messages and who takes them all the same
  *
  * `bench/run` builds and runs this; it defines WITH_EXPAT, WITH_LIBXML2, WITH_PUGIXML and WITH_RAPIDXML for those that
- * are installed. bench/README.md says what is compared with what.
+ * are installed. With WITH_BEFORE, as bench/beside.py builds it, the ali_read of an older archive is timed too.
+ * bench/README.md says what is compared with what.
  */
 #include "ali_link.h"
 
@@ -33,6 +34,9 @@
 #ifdef WITH_RAPIDXML
 #include <rapidxml/rapidxml.hpp>
 #endif
+#ifdef WITH_BEFORE
+extern "C" decltype(ali_read) ali_read_before;
+#endif
 
 namespace {
 
@@ -52,11 +56,10 @@ struct Reader {
 
 std::uint64_t answer[ALI_ANSWER_PLACES];
 
-bool read_proved(std::string &message)
+template <decltype(ali_read) *read> bool read_proved(std::string &message)
 {
-    constexpr int refusal = 0, kind = 2, response = 7; // places of the answer, and what stands at the second
     const auto *bytes = reinterpret_cast<const std::uint8_t *>(message.data());
-    return ali_read(bytes, message.size(), answer, ALI_ANSWER_PLACES) == 0 && answer[refusal] == 0 && answer[kind] == response;
+    return read(bytes, message.size(), answer, ALI_ANSWER_PLACES) == 0 && answer[ALI_REFUSAL] == 0 && answer[ALI_KIND] == ALI_RESPONSE;
 }
 
 // ---- the copy that a parser needs which writes into what it reads ----
@@ -186,7 +189,10 @@ template <int flags> bool read_rapidxml(std::string &message)
 
 /* The first is what the others are held against; the settings of one peer stand together. */
 const std::vector<Reader> readers = {
-    {"ali_read", "", read_proved},
+    {"ali_read", "", read_proved<ali_read>},
+#ifdef WITH_BEFORE
+    {"before", "", read_proved<ali_read_before>},
+#endif
 #ifdef WITH_EXPAT
     {"expat", "no handlers", read_expat},
     {"expat", "empty handlers", read_expat_handled},
@@ -315,7 +321,7 @@ void show_faults()
     std::puts("|---|---|---|");
     for (const Fault &fault : faults) {
         std::string message = fault.message, takers;
-        read_proved(message);
+        read_proved<ali_read>(message);
         for (std::size_t i = 1; i < readers.size(); i++) {
             if (std::strcmp(readers[i].peer, readers[i - 1].peer) == 0)
                 continue;
@@ -365,6 +371,23 @@ void check_taken(const Input &input)
                 stop(name_of(reader) + " does not take a message of " + input.name + ", or changes it");
         }
 }
+
+#ifdef WITH_BEFORE
+/* All places of the list, so that one which only one of the two writes shows. */
+std::vector<std::uint64_t> answer_of(Read *read, std::string message)
+{
+    std::fill(std::begin(answer), std::end(answer), UINT64_MAX);
+    read(message);
+    return {std::begin(answer), std::end(answer)};
+}
+
+void check_same_answers(const Input &input)
+{
+    for (const std::string &message : input.messages)
+        if (answer_of(read_proved<ali_read>, message) != answer_of(read_proved<ali_read_before>, message))
+            stop("before answers a message of " + input.name + " in another way");
+}
+#endif
 
 /* Of the processor and not of the clock on the wall: a machine that others use too would otherwise measure them. */
 double seconds_used()
@@ -462,6 +485,9 @@ int main(int count, char **words)
     for (int i = 1; i < count; i++) {
         inputs.push_back(input_of(words[i]));
         check_taken(inputs.back());
+#ifdef WITH_BEFORE
+        check_same_answers(inputs.back());
+#endif
     }
     std::puts("| reader | messages, mean bytes | ns a message | MB/s | its time / ali_read's |");
     std::puts("|---|---|---|---|---|");
