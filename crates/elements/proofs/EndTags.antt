@@ -9,16 +9,16 @@ use native.Mathlib.Decide.{decLt}
 use lib.ListN.{length}
 use lib.Seq.{length-slice}
 use lib.Dec.{ltb}
-use borrow.Author.Tests.{ltb-false, eq-eqb, ne-eqb}
+use borrow.Author.Tests.{ltb-true, ltb-false, lt-leb, eq-eqb, ne-eqb}
 use Rattle.message.specs.Class.{isStart, isName, isSpace}
 use Rattle.message.specs.Reading.{_>>=_, isWhole, is, has, one, ends, wordAt}
 use Rattle.message.specs.Reading.Reading.{whole}
 use Rattle.message.specs.Names.{shortAt, partAt, nameAt}
-use Rattle.message.proofs.Laws.{went, cond-true, cond-false, cond-cases, has-lt, one-yes, ends-le, ends-stop}
+use Rattle.message.proofs.Laws.{went, cond-true, cond-false, cond-cases, both-first, both-second, has-lt, one-yes, ends-le, ends-stop}
 use Rattle.message.proofs.Progress.{Every, every-then}
 use Rattle.message.specs.Limits.{linkLimits}
 use Rattle.message.specs.Elements.{part, endPartAt, endNameAt, endTagAt}
-use Rattle.elements.specs.Held.{NameStands}
+use Rattle.elements.specs.Held.{NameStands, tagEndsAt}
 use Rattle.message.proofs.Parts.{part-some, part-split}
 use Rattle.message.proofs.Runs.{byte-is, has-known, word-begins, ends-fails, start-in-name}
 use Rattle.message.proofs.Trees.{one-cases}
@@ -72,6 +72,21 @@ module _ (class : ℕ → ℕ) (s : List ℕ) where
 
   pub name-stands : (b local e : ℕ) → nameAt class 64 s b ≡ whole (record { local = local; end = e }) → NameStands class s b local e
   name-stands b local e q = subst (Every (λ name. NameStands class s b (name .local) (name .end))) q (name-every b)
+
+-- ---- the `>` of a tag, which is neither a name byte nor white space
+
+module _ (class : ℕ → ℕ) (s : List ℕ) (at : ℕ) (end : tagEndsAt class s at ≡ true) where
+  pub tag-closes : has (is 62) s at ≡ true
+  tag-closes = both-first (has (is 62) s at) (ltb (class 62) 3) end
+
+  tag-low : class 62 < 3
+  tag-low = ltb-true (class 62) 3 (both-second (has (is 62) s at) (ltb (class 62) 3) end)
+
+  tag-no-name : has (isName class) s at ≡ false
+  tag-no-name = has-known 62 s at tag-closes (isName class) ∙ lt-leb 4 (class 62) (omega (arith, tag-low))
+
+  pub tag-no-space : has (isSpace class) s at ≡ false
+  tag-no-space = has-known 62 s at tag-closes (isSpace class) ∙ ne-eqb (class 62) 3 (λ q. omega (arith, tag-low))
 
 -- ---- a name that is repeated whole
 
@@ -140,12 +155,10 @@ module _ (class : ℕ → ℕ) (s : List ℕ) where
             | yes h ↦ let two : local ≡ b → ⊥ = λ q. omega arith in sym (cond-false _ (ne-eqb local b two)) ∙ two-parts two
           ]
 
-    -- with `>` at once behind it, which is neither a name byte nor white space
-    pub tag-again : has (is 62) s (at + (e - b)) ≡ true → isName class 62 ≡ false → isSpace class 62 ≡ false → whole (at + (e - b) + 1) ≡ endTagAt class s linkLimits b (record { local = local; end = e }) at
+    -- with the `>` of the tag at once behind it
+    pub tag-again : tagEndsAt class s (at + (e - b)) ≡ true → whole (at + (e - b) + 1) ≡ endTagAt class s linkLimits b (record { local = local; end = e }) at
     unfolding endTagAt
-    tag-again close no-name no-space =
-        let none : has (isName class) s (at + (e - b)) ≡ false = has-known 62 s (at + (e - b)) close (isName class) ∙ no-name in
-        let dark : has (isSpace class) s (at + (e - b)) ≡ false = has-known 62 s (at + (e - b)) close (isSpace class) ∙ no-space in
-        sym (one-yes (is 62) s (at + (e - b)) close)
-        ∙ ap (one (is 62) s) (sym (ends-stop (isSpace class) s (at + (e - b)) dark))
-        ∙ went _ (name-again none)
+    tag-again end =
+        sym (one-yes (is 62) s (at + (e - b)) (tag-closes class s (at + (e - b)) end))
+        ∙ ap (one (is 62) s) (sym (ends-stop (isSpace class) s (at + (e - b)) (tag-no-space class s (at + (e - b)) end)))
+        ∙ went _ (name-again (tag-no-name class s (at + (e - b)) end))

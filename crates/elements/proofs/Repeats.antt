@@ -1,25 +1,26 @@
 -- Bytes that are repeated: what the code finds of a part of an end tag's name. Assumes nothing.
 use Prim.Native.Nat.{ℕ, zero, suc, _+_, _-_, _<_, _≤_}
 use mathlib.Core.Path.{_≡_, refl, sym, _∙_, ap, subst}
-use mathlib.Core.Bool.{Bool, true, false, true≢false}
+use mathlib.Core.Bool.{Bool, true, false, _&&_, true≢false}
 use mathlib.Core.List.{List, [], _∷_, _++_}
-use native.Mathlib.Nat.{min-eq-left}
 use native.Mathlib.Omega.{arith}
 use native.Mathlib.Decide.{decLt}
-use lib.ListN.{length, getD, drop}
+use lib.ListN.{length, getD}
 use lib.Seq.{length-slice}
 use lib.Dec.{eqb}
 use borrow.Author.Tests.{lt-ltb, le-ltb, eq-eqb, ne-eqb}
+use Rattle.laws.specs.Bytes.{sameAt}
+use Rattle.laws.proofs.Same.{same-none, same-first}
 use Rattle.message.specs.Class.{isName}
 use Rattle.message.specs.Reading.{Reading, _>>=_, isWhole, is, byteAt, has, one, ends, wordAt}
 use Rattle.message.specs.Reading.Reading.{whole, refused}
 use Rattle.message.specs.Names.{shortAt}
-use Rattle.message.proofs.Laws.{went, stopped, cond-true, cond-false, has-in, has-lt, has-byte, one-yes, one-no, ends-more, ends-stop, word-none, word-more}
+use Rattle.message.proofs.Laws.{went, stopped, cond-true, cond-false, has-in, has-lt, has-byte, one-yes, one-no, ends-more, ends-stop}
 use Rattle.message.proofs.Runs.{has-known}
 use Rattle.message.specs.Limits.{linkLimits}
 use Rattle.message.specs.Elements.{part, endPartAt}
 use Rattle.elements.specs.Held.{sameUpTo}
-use Rattle.message.proofs.Parts.{part-byte, part-none, part-some}
+use Rattle.message.proofs.Parts.{part-none, part-some}
 
 -- ---- what a run of bytes passes
 
@@ -67,6 +68,14 @@ module _ (x : ℕ) (w s : List ℕ) (at : ℕ) where
     pub word-here : wordAt (x ∷ w) s at ≡ refused 9 at
     unfolding wordAt
     word-here = sym (stopped _ (one-no (is x) s at other))
+
+  -- whether it stands there, by its first byte
+  word-step : at < length s → isWhole (wordAt (x ∷ w) s at) ≡ (eqb (byteAt s at) x && isWhole (wordAt w s (at + 1)))
+  word-step h = go (eqb (byteAt s at) x) refl
+    where
+      go : (t : Bool) → eqb (byteAt s at) x ≡ t → isWhole (wordAt (x ∷ w) s at) ≡ (t && isWhole (wordAt w s (at + 1)))
+      go true e = ap isWhole (word-on (has-in (is x) s at h ∙ e))
+      go false e = ap isWhole (word-here (has-in (is x) s at h ∙ e))
 
 -- the word stands at the place up to i, and no further
 pub record Repeated (w s : List ℕ) (at i : ℕ) : Type 0 where
@@ -231,7 +240,7 @@ pub whole-first : {A B : Type 0} (a : Reading A) (next : A → Reading B) → is
 whole-first (whole x) next h = refl
 whole-first (refused number place) next h = h
 
--- ---- the code's comparison of two parts of the message, from their k-th bytes on
+-- ---- the code's comparison of two parts of the message
 
 module _ (s : List ℕ) (b e at : ℕ) (l : e ≤ length s) where
   pub repeats-long : 0 < e - b → length s < at + (e - b) → false ≡ isWhole (wordAt (part s b e) s at)
@@ -245,25 +254,17 @@ module _ (s : List ℕ) (b e at : ℕ) (l : e ≤ length s) where
         | no k ↦ eq-eqb (e - b) 0 (omega arith) ∙ sym (ap (λ (w : List ℕ). isWhole (wordAt w s at)) (part-none s b e (omega arith)))
       ]
 
-  module _ (k : ℕ) where
-    turn : k < e - b → wordAt (drop k (part s b e)) s (at + k) ≡ (one (is (byteAt s (b + k))) s (at + k) >>= wordAt (drop (k + 1) (part s b e)) s)
-    turn h =
-        word-more (part s b e) s (at + k) k (omega (arith, length-slice b e s l))
-        ∙ ap (λ (x : ℕ). one (is x) s (at + k) >>= wordAt (drop (k + 1) (part s b e)) s) (part-byte s b e k (omega (arith, min-eq-left l)))
-
-    pub repeats-on : k < e - b → at + k < length s → byteAt s (b + k) ≡ byteAt s (at + k) → isWhole (wordAt (drop (k + 1) (part s b e)) s (at + (k + 1))) ≡ isWhole (wordAt (drop k (part s b e)) s (at + k))
-    repeats-on h m q =
-        let there : has (is (byteAt s (b + k))) s (at + k) ≡ true = has-in (is (byteAt s (b + k))) s (at + k) m ∙ eq-eqb (byteAt s (at + k)) (byteAt s (b + k)) (sym q) in
-        let next : at + (k + 1) ≡ at + k + 1 = omega arith in
-        ap isWhole (ap (wordAt (drop (k + 1) (part s b e)) s) next ∙ went _ (one-yes (is (byteAt s (b + k))) s (at + k) there) ∙ sym (turn h))
-
-    pub repeats-differs : k < e - b → at + k < length s → (byteAt s (b + k) ≡ byteAt s (at + k) → ⊥) → false ≡ isWhole (wordAt (drop k (part s b e)) s (at + k))
-    repeats-differs h m q =
-        let other : has (is (byteAt s (b + k))) s (at + k) ≡ false = has-in (is (byteAt s (b + k))) s (at + k) m ∙ ne-eqb (byteAt s (at + k)) (byteAt s (b + k)) (λ p. q (sym p)) in
-        ap isWhole (stopped (wordAt (drop (k + 1) (part s b e)) s) (one-no (is (byteAt s (b + k))) s (at + k) other) ∙ sym (turn h))
-
-    pub repeats-end : e - b ≤ k → true ≡ isWhole (wordAt (drop k (part s b e)) s (at + k))
-    repeats-end h = ap isWhole (sym (word-none (part s b e) s (at + k) k (omega (arith, length-slice b e s l))))
+  -- a part that is the same at both places is repeated
+  pub repeats-same : b ≤ e → at + (e - b) ≤ length s → sameAt (e - b) s b s at ≡ isWhole (wordAt (part s b e) s at)
+  unfolding wordAt
+  repeats-same order room = go (e - b) b at (omega arith) room
+    where
+      go : (n b at : ℕ) → b + n ≡ e → at + n ≤ length s → sameAt n s b s at ≡ isWhole (wordAt (part s b e) s at)
+      go zero b at q h = rw (part-none s b e (omega arith)) (same-none s b s at)
+      go (suc n) b at q h =
+          same-first s b s at n (omega arith) (omega arith)
+          ∙ ap (λ (t : Bool). eqb (byteAt s at) (byteAt s b) && t) (go n (b + 1) (at + 1) (omega arith) (omega arith))
+          ∙ sym (ap (λ (w : List ℕ). isWhole (wordAt w s at)) (part-some s b e (omega arith) l) ∙ word-step (byteAt s b) (part s (b + 1) e) s at (omega arith))
 
 -- ---- the code's search for the place up to which the bytes from k to e are repeated
 

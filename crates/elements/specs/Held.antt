@@ -1,10 +1,11 @@
--- What the code's own ways rest on: the names of attributes read so far, held as places in two arrays, and a start tag's name that is read again in the
--- end tag. Assumes nothing.
+-- What the code's own ways rest on: the names of attributes read so far, held as places in two arrays, a start tag's name that is read again in the
+-- end tag, and what it looks for first at a place. Assumes nothing.
 use Prim.Native.Nat.{ℕ, zero, suc, _+_, _-_, _<_, _≤_}
 use mathlib.Core.Path.{_≡_}
-use mathlib.Core.Bool.{true, cond}
+use mathlib.Core.Bool.{Bool, true, not, cond, _&&_}
 use mathlib.Core.List.{List, [], _∷_}
 use lib.ListN.{length, getD}
+use lib.Dec.{ltb}
 use Rattle.message.specs.Class.{isName}
 use Rattle.message.specs.Reading.{Reading, _>>=_, is, has, ends}
 use Rattle.message.specs.Reading.Reading.{whole, refused}
@@ -12,7 +13,7 @@ use Rattle.message.specs.Elements as elements
 use Rattle.laws.specs.Bytes.{sameBytes}
 use Rattle.message.specs.Names.{Named}
 use Rattle.message.specs.Limits.{linkLimits}
-use Rattle.message.specs.Words.{advisoryType}
+use Rattle.message.specs.Words.{char, advisoryType}
 use Rattle.message.specs.Elements.{part, endTagAt}
 use Rattle.elements.specs.Seen.{nothingInside}
 use Rattle.elements.specs.declared.content.Start as starts
@@ -49,6 +50,16 @@ pub record NameStands (class : ℕ → ℕ) (s : List ℕ) (b local e : ℕ) : T
   pub ordered : b ≤ local
   pub short : e - local ≤ 64
   pub joined : (local ≡ b → ⊥) → (local - 1 - b ≤ 64) × (has (is 58) s (local - 1) ≡ true)
+
+-- ---- what most often stands at a place
+
+-- a tag begins there, and neither a comment nor anything else that `<!` or `<?` opens
+abbrev pub tagAt : List ℕ → ℕ → Bool
+tagAt s at = has (is (char "<")) s at && (not (has (is (char "!")) s (at + 1)) && not (has (is (char "?")) s (at + 1)))
+
+-- the `>` that ends a tag, which is no name byte and no white space
+abbrev pub tagEndsAt : (ℕ → ℕ) → List ℕ → ℕ → Bool
+tagEndsAt class s at = has (is (char ">")) s at && ltb (class (char ">")) 3
 
 -- ---- a start tag that has been read
 

@@ -22,7 +22,7 @@ ghost use Rattle.message.specs.Reading.Reading.{whole};
 ghost use Rattle.scan.specs.Answers.{placeSaid};
 ghost use Rattle.message.specs.Limits.{linkLimits};
 ghost use Rattle.message.specs.Elements.{freeAt, tooDeepAt, startEndAt, withNameAt, startAt, elementAt};
-ghost use Rattle.elements.specs.Held.{NameStands, startedSaid, emptySeen, closing};
+ghost use Rattle.elements.specs.Held.{NameStands, tagAt, startedSaid, emptySeen, closing};
 ghost use Rattle.elements.specs.Seen.{seen, toldSaid};
 
 // A start tag that has been read: where its name stands, after any colon from `local` on, and the place behind it.
@@ -39,8 +39,32 @@ pub(crate) enum Started {
     Refused(u32, usize),
 }
 
-// Reads text and comments up to the next tag.
+// A tag begins at the place.
+fn tag_at(s: &[u8], at: usize) -> bool
+    ensures { λ r. ⌜ r ≡ tagAt (now (s .entry)) at ⌝ }
+{
+    if !bytes::is_at(s, at, b'<') {
+        return false;
+    }
+    if bytes::is_at(s, at + 1, b'!') {
+        return false;
+    }
+    !bytes::is_at(s, at + 1, b'?')
+}
+
+// Reads text and comments up to the next tag. Most often it is plain text, or nothing at all.
 fn free(s: &[u8], table: &[u8; 256], at: usize) -> Place
+    ensures { λ r. ⌜ placeSaid r ≡ freeAt (classIn (now (table .entry))) (now (s .entry)) (length (now (s .entry))) at ⌝ }
+{
+    let end = runs::plain_end(s, table, at);
+    if tag_at(s, end) {
+        return Place::Whole(end);
+    }
+    free_by_turns(s, table, end)
+}
+
+// The same with anything that may stand there.
+fn free_by_turns(s: &[u8], table: &[u8; 256], at: usize) -> Place
     ensures { λ r. ⌜ placeSaid r ≡ freeAt (classIn (now (table .entry))) (now (s .entry)) (length (now (s .entry))) at ⌝ }
 {
     let mut i = at;
@@ -97,8 +121,24 @@ fn start_tag(s: &[u8], table: &[u8; 256], at: usize) -> Started
     }
 }
 
-// Reads a start tag from behind its name on, which stands from `begin` to e.
+// Reads a start tag from behind its name on, which stands from `begin` to e. Most have their `>` at once.
 fn with_name(s: &[u8], table: &[u8; 256], begin: usize, local: usize, e: usize) -> Started
+    ensures { λ r. ⌜ startedSaid r ≡ withNameAt (classIn (now (table .entry))) (now (s .entry)) linkLimits begin (record { local = local; end = e }) ⌝ }
+{
+    if tags::ends_at(s, table, e) {
+        return Started::Whole(Start {
+            begin,
+            local,
+            stop: e,
+            from: e + 1,
+            empty: false,
+        });
+    }
+    with_attributes(s, table, begin, local, e)
+}
+
+// The same with attributes.
+fn with_attributes(s: &[u8], table: &[u8; 256], begin: usize, local: usize, e: usize) -> Started
     ensures { λ r. ⌜ startedSaid r ≡ withNameAt (classIn (now (table .entry))) (now (s .entry)) linkLimits begin (record { local = local; end = e }) ⌝ }
 {
     let r = attributes::attributes(s, table, e);
@@ -168,7 +208,8 @@ pub fn element(s: &[u8], table: &[u8; 256], at: usize, depth: u32) -> Told
         if bytes::is_at(s, stop + 1, b'/') {
             return close(s, table, start, stop, inside);
         }
-        let told = element(s, table, stop, depth - 1);
+        // Lent anew, and not as it came: docs/DECISIONS.md, "What the compiler makes of it".
+        let told = element(&s[..], table, stop, depth - 1);
         let Told::Whole(child) = told else {
             return told;
         };

@@ -3,14 +3,15 @@ use crate::MOST_PART;
 use scan::Place;
 use scan::bytes;
 ghost use mathlib.Core.Path.{_≡_};
-ghost use Prim.Native.Nat.{_≤_, _<_};
+ghost use Prim.Native.Nat.{_+_, _≤_, _<_};
 ghost use lib.ListN.{length};
+ghost use Rattle.laws.specs.Bytes.{sameAt};
 ghost use Rattle.message.specs.Class.{classIn, isName};
 ghost use Rattle.message.specs.Reading.{isWhole, wordAt, ends};
 ghost use Rattle.scan.specs.Answers.{placeSaid};
 ghost use Rattle.message.specs.Limits.{linkLimits};
 ghost use Rattle.message.specs.Elements.{part as partOf, endPartAt, endNameAt, endTagAt};
-ghost use Rattle.elements.specs.Held.{sameUpTo, NameStands};
+ghost use Rattle.elements.specs.Held.{sameUpTo, NameStands, tagEndsAt};
 
 // The first place from `at` on where the bytes from b to e are not repeated, or the place behind them.
 fn repeated(s: &[u8], b: usize, e: usize, at: usize) -> usize
@@ -68,6 +69,51 @@ fn name(s: &[u8], table: &[u8; 256], b: usize, local: usize, e: usize, at: usize
     part(s, table, local, e, j)
 }
 
+// Whether the n bytes from b on stand at `at` too, one by one.
+fn few_stand(s: &[u8], b: usize, at: usize, n: usize) -> bool
+    requires { ⌜ (b + n ≤ length (now s)) × (at + n ≤ length (now s)) ⌝ }
+    ensures { λ r. ⌜ r ≡ sameAt n (now (s .entry)) b (now (s .entry)) at ⌝ }
+{
+    let mut k = 0;
+    while k < n {
+        if s[at + k] != s[b + k] {
+            return false;
+        }
+        k += 1;
+    }
+    true
+}
+
+// The same of eight bytes, which are one comparison to the compiler.
+fn eight_stand(s: &[u8], b: usize, at: usize) -> bool
+    requires { ⌜ (b + 8 ≤ length (now s)) × (at + 8 ≤ length (now s)) ⌝ }
+    ensures { λ r. ⌜ r ≡ sameAt 8 (now (s .entry)) b (now (s .entry)) at ⌝ }
+{
+    let mut same = true;
+    let mut k = 0;
+    while k < 8 {
+        same = same & (s[at + k] == s[b + k]);
+        k += 1;
+    }
+    same
+}
+
+// The same of eight bytes or more, by eights. The last eight may begin before those ahead of them end.
+fn many_stand(s: &[u8], b: usize, at: usize, n: usize) -> bool
+    requires { ⌜ (8 ≤ n) × (b + n ≤ length (now s)) × (at + n ≤ length (now s)) ⌝ }
+    ensures { λ r. ⌜ r ≡ sameAt n (now (s .entry)) b (now (s .entry)) at ⌝ }
+{
+    let last = n - 8;
+    let mut k = 0;
+    while k < last {
+        if !eight_stand(s, b + k, at + k) {
+            return false;
+        }
+        k += 8;
+    }
+    eight_stand(s, b + last, at + last)
+}
+
 // The bytes from b to e stand at `at` too.
 fn repeats(s: &[u8], b: usize, e: usize, at: usize) -> bool
     requires { ⌜ b ≤ e ⌝ }
@@ -81,14 +127,21 @@ fn repeats(s: &[u8], b: usize, e: usize, at: usize) -> bool
     if s.len() - at < n {
         return false;
     }
-    let mut k = 0;
-    while k < n {
-        if s[b + k] != s[at + k] {
-            return false;
-        }
-        k += 1;
+    if n < 8 {
+        return few_stand(s, b, at, n);
     }
-    true
+    many_stand(s, b, at, n)
+}
+
+// The `>` of a tag stands at the place, and the table that is lent does not read on behind it.
+pub(crate) fn ends_at(s: &[u8], table: &[u8; 256], at: usize) -> bool
+    ensures { λ r. ⌜ r ≡ tagEndsAt (classIn (now (table .entry))) (now (s .entry)) at ⌝ }
+{
+    if bytes::is_at(s, at, b'>') {
+        bytes::class(table, b'>') < bytes::SPACE
+    } else {
+        false
+    }
 }
 
 // Reads an end tag after its `</`. Most repeat the name and then have their `>` at once.
@@ -104,11 +157,8 @@ pub(crate) fn end_tag(
     ensures { λ r. ⌜ placeSaid r ≡ endTagAt (classIn (now (table .entry))) (now (s .entry)) linkLimits b (record { local = local; end = e }) at ⌝ }
 {
     if repeats(s, b, e, at) {
-        if bytes::is_at(s, at + (e - b), b'>') {
-            // Any table may be lent: one that gives `>` the class of names or of white space would read on behind it.
-            if bytes::class(table, b'>') < bytes::SPACE {
-                return Place::Whole(at + (e - b) + 1);
-            }
+        if ends_at(s, table, at + (e - b)) {
+            return Place::Whole(at + (e - b) + 1);
         }
     }
     let r = name(s, table, b, local, e, at);

@@ -10,12 +10,11 @@ use lib.Seq.{take-suc, take-add, getD-take, getD-drop, getD-append-add, ext-getD
 use lib.Dec.{leb}
 use borrow.Author.Tests.{leb-true, leb-false}
 use Rattle.framing.specs.Cutting.{longestMatch}
-use Rattle.framing.specs.Standing.{sameAt}
-use Rattle.framing.proofs.Stands.{each-same, all-same}
 use Rattle.laws.proofs.Tests.{iff-same, never}
 use Rattle.laws.proofs.Search.{greatest-is}
-use Rattle.laws.specs.Bytes.{Ends, endsWith}
+use Rattle.laws.specs.Bytes.{sameAt, Ends, endsWith}
 use Rattle.laws.proofs.Tails.{ends-of-test, test-of-ends, too-long, ends-nil, ends-snoc, ends-unsnoc}
+use Rattle.laws.proofs.Same.{each-same, all-same}
 
 -- the boundary agrees with itself over its first n bytes, j - n places on
 abbrev pub Agrees : List ℕ → ℕ → ℕ → Type 0

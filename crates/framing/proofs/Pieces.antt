@@ -11,12 +11,12 @@ use lib.Seq.{take-all, take-add, take-take, take-length, drop-at}
 use lib.Dec.{leb, ltb}
 use borrow.Author.Tests.{le-leb, lt-leb, leb-true, leb-false, ltb-true, ltb-false}
 use Rattle.laws.specs.Search.{least}
-use Rattle.laws.specs.Bytes.{sameBytes, endsWith}
+use Rattle.laws.specs.Bytes.{sameBytes, sameAt, endsWith}
 use Rattle.laws.proofs.Search.{least-is, least-none, least-same, least-skip, least-below, least-passes, greatest-same}
 use Rattle.laws.proofs.Tails.{too-long}
 use Rattle.framing.specs.declared.Cut.{Cut}
 use Rattle.framing.specs.Cutting.{longestMatch, itemEnd, cutOver, cutOf}
-use Rattle.framing.specs.Standing.{sameAt, standsAt}
+use Rattle.framing.specs.Standing.{standsAt}
 use Rattle.framing.proofs.Matcher.{length-held, front}
 use Rattle.framing.proofs.GoesOn.{tail-alone, cutInto, cut-at}
 use Rattle.framing.proofs.Stands.{First}

@@ -3,14 +3,10 @@
 use Prim.Native.Nat.{ℕ, zero, suc, _+_, _-_, _/_}
 use mathlib.Core.Bool.{Bool, false, _&&_, _||_}
 use mathlib.Core.List.{List}
-use lib.ListN.{length, take, drop, getD}
+use lib.ListN.{length, getD}
 use lib.Dec.{eqb}
 use Rattle.laws.specs.Search.{least}
-use Rattle.laws.specs.Bytes.{sameBytes}
-
--- the n bytes of p from place i on are the n bytes of b from place j on
-unfoldable pub sameAt : ℕ → List ℕ → ℕ → List ℕ → ℕ → Bool
-sameAt n b j p i = sameBytes (take n (drop i p)) (take n (drop j b))
+use Rattle.laws.specs.Bytes.{sameAt}
 
 -- b stands in p at place i
 abbrev pub standsAt : List ℕ → List ℕ → ℕ → Bool

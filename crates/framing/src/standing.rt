@@ -3,7 +3,8 @@
 ghost use mathlib.Core.Path.{_≡_};
 ghost use Prim.Native.Nat.{suc, _+_, _-_, _/_, _≤_, _<_, min};
 ghost use lib.ListN.{length};
-ghost use Rattle.framing.specs.Standing.{sameAt, standsAt, firstFrom, blockPlaces, pairIn, mayStand};
+ghost use Rattle.laws.specs.Bytes.{sameAt};
+ghost use Rattle.framing.specs.Standing.{standsAt, firstFrom, blockPlaces, pairIn, mayStand};
 
 // The places of a block.
 const BLOCK: usize = 32;

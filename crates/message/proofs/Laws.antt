@@ -179,12 +179,6 @@ module _ (test : ℕ → Bool) (s : List ℕ) where
   pub up-on : (k at j : ℕ) {n : ℕ} → has test s (at + j) ≡ true → n ≡ upTo k test s (at + suc j) → suc n ≡ upTo (suc k) test s (at + j)
   up-on k at j h e = up-yes k (at + j) h (e ∙ ap (upTo k test s) (omega arith))
 
-  -- one more than the message still has changes nothing
-  pub up-short : (k at : ℕ) → length s ≤ at + k → upTo k test s at ≡ upTo (suc k) test s at
-  unfolding upTo
-  up-short zero at h = cond-false _ (has-out test s at (omega arith))
-  up-short (suc k) at h = ap (λ (n : ℕ). cond (has test s at) (suc n) 0) (up-short k (at + 1) (omega arith))
-
   -- those that pass stand in the message
   up-le : (k at : ℕ) → upTo k test s at ≤ length s - at
   unfolding upTo

@@ -129,6 +129,9 @@ module _ (class : ℕ → ℕ) (s : List ℕ) (k : ℕ) where
 -- ---- what is known of a reading that was whole
 
 module _ (class : ℕ → ℕ) (s : List ℕ) where
+  pub part-on : (most : ℕ) {at e : ℕ} → partAt class most s at ≡ whole e → (at < e) × (e ≤ length s)
+  part-on most {at} q = past-whole place (length s) at q (past-part class s at most at (omega arith))
+
   pub name-on : (most : ℕ) {at : ℕ} {n : Named} → nameAt class most s at ≡ whole n → (at < n .end) × (n .end ≤ length s)
   name-on most {at} q = past-whole (λ n. n .end) (length s) at q (past-name class s at most at (omega arith))
 

@@ -1,6 +1,8 @@
 // One byte, and runs of bytes of a class.
 use crate::Place;
 ghost use mathlib.Core.Path.{_≡_};
+ghost use Prim.Native.Nat.{_+_, _≤_};
+ghost use lib.ListN.{length};
 ghost use Rattle.message.specs.Class.{classIn, isStart, atLeast, isName, isSpace};
 ghost use Rattle.message.specs.Reading.{is, has, one, ends, upTo, blanks as blanksAt, equalsAt, openedAt, isQuote};
 ghost use Rattle.scan.specs.Answers.{placeSaid};
@@ -107,32 +109,11 @@ pub fn quote(s: &[u8], at: usize) -> Place
     byte(s, at, b'\'')
 }
 
-// How many bytes of a class of at least `least` stand from a place on, of at most three, where no four are left.
-fn last_few(s: &[u8], table: &[u8; 256], at: usize, least: u8) -> usize
-    ensures { λ r. ⌜ r ≡ upTo 3 (atLeast (classIn (now (table .entry))) least) (now (s .entry)) at ⌝ }
-{
-    if !least_at(s, table, at, least) {
-        return 0;
-    }
-    if !least_at(s, table, at + 1, least) {
-        return 1;
-    }
-    if !least_at(s, table, at + 2, least) {
-        return 2;
-    }
-    3
-}
-
-// The same of four bytes. They are looked at by fours since most of the time goes into runs of them.
+// How many bytes of a class of at least `least` stand from a place on, of the four that are there.
 fn few(s: &[u8], table: &[u8; 256], at: usize, least: u8) -> usize
+    requires { ⌜ at + 4 ≤ length (now s) ⌝ }
     ensures { λ r. ⌜ r ≡ upTo 4 (atLeast (classIn (now (table .entry))) least) (now (s .entry)) at ⌝ }
 {
-    if s.len() < 4 {
-        return last_few(s, table, at, least);
-    }
-    if s.len() - 4 < at {
-        return last_few(s, table, at, least);
-    }
     if class(table, s[at]) < least {
         return 0;
     }
@@ -148,29 +129,38 @@ fn few(s: &[u8], table: &[u8; 256], at: usize, least: u8) -> usize
     4
 }
 
-// The place behind the bytes of a class of at least `least` from a place on.
-pub fn run_end(s: &[u8], table: &[u8; 256], at: usize, least: u8) -> usize
+// The place behind the bytes of a class of at least `least` from a place on, one by one: for the last of a message, where no four are left.
+fn last_end(s: &[u8], table: &[u8; 256], at: usize, least: u8) -> usize
     ensures { λ r. ⌜ r ≡ ends (atLeast (classIn (now (table .entry))) least) (now (s .entry)) at ⌝ }
 {
     let mut i = at;
-    loop {
+    while least_at(s, table, i, least) {
+        i += 1;
+    }
+    i
+}
+
+// The same by fours, as long as four are left: most of the time goes into runs of them.
+pub fn run_end(s: &[u8], table: &[u8; 256], at: usize, least: u8) -> usize
+    ensures { λ r. ⌜ r ≡ ends (atLeast (classIn (now (table .entry))) least) (now (s .entry)) at ⌝ }
+{
+    let no_four = if s.len() < 4 { 0 } else { s.len() - 3 };
+    let mut i = at;
+    while i < no_four {
         let n = few(s, table, i, least);
         i += n;
         if n != 4 {
             return i;
         }
     }
+    last_end(s, table, i, least)
 }
 
-// The place behind the name bytes from a place on. Names are short, and are looked at one by one.
+// The place behind the name bytes from a place on.
 pub fn name_end(s: &[u8], table: &[u8; 256], at: usize) -> usize
     ensures { λ r. ⌜ r ≡ ends (isName (classIn (now (table .entry)))) (now (s .entry)) at ⌝ }
 {
-    let mut i = at;
-    while least_at(s, table, i, NAME) {
-        i += 1;
-    }
-    i
+    run_end(s, table, at, NAME)
 }
 
 // The place behind the white space from a place on.

@@ -29,21 +29,23 @@ pub fn part(s: &[u8], table: &[u8; 256], at: usize, most: usize) -> Place
     short(s, table, at, most)
 }
 
-// Reads a name whose parts are of at most `most` bytes.
+// Reads a name whose parts are of at most `most` bytes, both by one call: docs/DECISIONS.md, "What the compiler makes of it".
 pub fn name(s: &[u8], table: &[u8; 256], at: usize, most: usize) -> Name
     ensures { λ r. ⌜ nameSaid r ≡ nameAt (classIn (now (table .entry))) most (now (s .entry)) at ⌝ }
 {
-    let r = part(s, table, at, most);
-    let first = match r {
-        Place::Whole(first) => first,
-        Place::Refused(number, place) => return Name::Refused(number, place),
-    };
-    if !bytes::is_at(s, first, b':') {
-        return Name::Whole(at, first);
-    }
-    let r = part(s, table, first + 1, most);
-    match r {
-        Place::Whole(last) => Name::Whole(first + 1, last),
-        Place::Refused(number, place) => Name::Refused(number, place),
+    let mut local = at;
+    loop {
+        let r = part(s, table, local, most);
+        let end = match r {
+            Place::Whole(end) => end,
+            Place::Refused(number, place) => return Name::Refused(number, place),
+        };
+        if local != at {
+            return Name::Whole(local, end);
+        }
+        if !bytes::is_at(s, end, b':') {
+            return Name::Whole(at, end);
+        }
+        local = end + 1;
     }
 }

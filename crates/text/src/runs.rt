@@ -117,30 +117,36 @@ fn beyond_plain(s: &[u8], table: &[u8; 256], at: usize) -> Place
 pub fn text(s: &[u8], table: &[u8; 256], at: usize) -> Place
     ensures { λ r. ⌜ placeSaid r ≡ textAt (classIn (now (table .entry))) (length (now (s .entry))) (now (s .entry)) at ⌝ }
 {
-    let mut i = plain_end(s, table, at);
-    while !bytes::is_at(s, i, b'<') {
-        let r = beyond_plain(s, table, i);
+    let mut i = at;
+    loop {
+        let stop = plain_end(s, table, i);
+        if bytes::is_at(s, stop, b'<') {
+            return Place::Whole(stop);
+        }
+        let r = beyond_plain(s, table, stop);
         let Place::Whole(next) = r else {
             return r;
         };
-        i = plain_end(s, table, next);
+        i = next;
     }
-    Place::Whole(i)
 }
 
 // Reads an attribute's value up to the quotation mark that ends it.
 pub fn value(s: &[u8], table: &[u8; 256], at: usize, quote: u8) -> Place
     ensures { λ r. ⌜ placeSaid r ≡ valueAt (classIn (now (table .entry))) (length (now (s .entry))) quote (now (s .entry)) at ⌝ }
 {
-    let mut i = plain_end(s, table, at);
-    while !bytes::is_at(s, i, quote) {
-        let r = beyond_plain_in(s, table, i);
+    let mut i = at;
+    loop {
+        let stop = plain_end(s, table, i);
+        if bytes::is_at(s, stop, quote) {
+            return Place::Whole(stop);
+        }
+        let r = beyond_plain_in(s, table, stop);
         let Place::Whole(next) = r else {
             return r;
         };
-        i = plain_end(s, table, next);
+        i = next;
     }
-    Place::Whole(i)
 }
 
 // Reads what is no plain byte of a comment: a `-` alone, or a character of more than one byte.

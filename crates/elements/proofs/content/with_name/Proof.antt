@@ -1,33 +1,27 @@
--- `elements::content::with_name` meets its contract: the attributes, and then the end of the tag. Assumes nothing.
+-- `elements::content::with_name` meets its contract: a `>` at once behind the name ends the tag, and else the attributes are looked for. Assumes nothing.
+use mathlib.Core.Path.{sym, _∙_}
+use native.Mathlib.Omega.{arith}
+use Rattle.message.proofs.Laws.{both-first, has-lt}
+use Rattle.elements.proofs.FirstLooks.{name-alone}
 use borrow.Author.Needs.{needs}
 use Rattle.elements.proofs.content.with_name.Statement.{statement}
 use Rattle.elements.proofs.content.with_name.Tie as tie
-use mathlib.Core.Path.{_∙_}
-use Rattle.scan.proofs.Said.{place-is}
-use Rattle.message.proofs.Laws.{went, stopped}
-use Rattle.message.specs.Elements.{withNameAt}
 
-attributes-requires : tie.Need-attributes-requires
-attributes-requires c κs = search needs
+ends-at-requires : tie.Need-ends-at-requires
+ends-at-requires c κs = search needs
 
-enum-known-r : tie.Need-enum-known-r
-enum-known-r c = search needs
-
-start-end-requires : tie.Need-start-end-requires
-start-end-requires c κs = search needs
-
-enum-known-r-2 : tie.Need-enum-known-r-2
-enum-known-r-2 c = search needs
+add-t7 : tie.Need-add-t7
+add-t7 c = omega (arith, has-lt _ _ _ (both-first _ _ (sym (c .before .ends-at .ensures) ∙ c .if1 .taken)))
 
 returns : tie.Need-returns
-unfolding withNameAt
-returns c = c .start-end .ensures ∙ went _ (place-is (c .before .before .before .before .attributes .ensures) (c .before .before .r .given .1))
+returns c = name-alone _ _ _ _ _ (sym (c .before .ends-at .ensures) ∙ c .if1 .taken)
+
+with-attributes-requires : tie.Need-with-attributes-requires
+with-attributes-requires c κs = search needs
 
 returns-2 : tie.Need-returns-2
-unfolding withNameAt
-returns-2 c = stopped _ (place-is (c .before .before .before .attributes .ensures) (c .before .r2 .given .1))
+returns-2 c = search needs
 
 pub with-name-spec : {M : Type 1} → statement M
 with-name-spec =
-    tie.close
-    (tie.spec attributes-requires enum-known-r start-end-requires enum-known-r-2 returns returns-2)
+    tie.close (tie.spec ends-at-requires add-t7 returns with-attributes-requires returns-2)

@@ -1,46 +1,48 @@
 -- `elements::tags::end_tag` meets its contract: a name that is repeated whole, with `>` at once behind it, is what the longer way would read too.
 -- Assumes nothing.
+use mathlib.Core.Path.{sym, ap, _∙_}
 use borrow.Author.Needs.{needs}
-use Rattle.elements.proofs.tags.end_tag.Statement.{statement}
-use Rattle.elements.proofs.tags.end_tag.Tie as tie
-use Prim.Native.Nat.{ℕ}
-use mathlib.Core.Path.{sym, _∙_, ap}
 use native.Mathlib.Omega.{arith}
-use lib.Dec.{leb, eqb}
-use borrow.Author.Tests.{lt-leb, ne-eqb}
+use denote.Ref.{now}
 use Rattle.message.specs.Class.{classIn}
 use Rattle.message.specs.Reading.{is, one}
 use Rattle.scan.proofs.Said.{place-is, handed}
-use Rattle.message.proofs.Laws.{went, has-lt}
+use Rattle.message.proofs.Laws.{went, both-first, has-lt}
 use Rattle.message.specs.Elements.{endTagAt}
 use Rattle.elements.proofs.EndTags.{again-within, tag-again}
+use Rattle.elements.proofs.tags.end_tag.Statement.{statement}
+use Rattle.elements.proofs.tags.end_tag.Tie as tie
 
 repeats-requires : tie.Need-repeats-requires
-repeats-requires c κs = (omega (arith, c .before .pre .ordered, c .before .pre .last .0), c .before .pre .within)
+repeats-requires c κs = search needs
 
-sub-is-at : tie.Need-sub-is-at
-sub-is-at c = omega (arith, c .before .before .before .pre .ordered, c .before .before .before .pre .last .0)
+sub-ends-at : tie.Need-sub-ends-at
+sub-ends-at c = search needs
 
-add-is-at : tie.Need-add-is-at
-add-is-at c = omega (arith, again-within (classIn (c .before .before .before .args .table .now)) (c .before .before .before .args .s .now) (c .before .before .before .args .b) (c .before .before .before .args .local) (c .before .before .before .args .e) (c .before .before .before .args .at) (c .before .before .before .pre) (sym (c .before .repeats .ensures) ∙ c .if1 .taken))
+add-ends-at : tie.Need-add-ends-at
+add-ends-at c =
+    let start = c .before .before .before in
+    let a = start .args in
+    omega (arith, again-within (classIn (now (a .table))) (now (a .s)) (a .b) (a .local) (a .e) (a .at) (start .pre) (sym (c .before .repeats .ensures) ∙ c .if1 .taken))
 
-is-at-requires : tie.Need-is-at-requires
-is-at-requires c κs = search needs
+ends-at-requires : tie.Need-ends-at-requires
+ends-at-requires c κs = search needs
 
-class-requires : tie.Need-class-requires
-class-requires c κs = search needs
+sub-t13 : tie.Need-sub-t13
+sub-t13 c = search needs
 
-sub-t15 : tie.Need-sub-t15
-sub-t15 c = omega (arith, c .before .before .before .before .before .before .before .pre .ordered, c .before .before .before .before .before .before .before .pre .last .0)
+add-t14 : tie.Need-add-t14
+add-t14 c = omega (arith, has-lt _ _ _ (both-first _ _ (sym (c .before .ends-at .ensures) ∙ c .if2 .taken)))
 
-add-t16 : tie.Need-add-t16
-add-t16 c = omega (arith, again-within (classIn (c .before .before .before .before .before .before .before .args .table .now)) (c .before .before .before .before .before .before .before .args .s .now) (c .before .before .before .before .before .before .before .args .b) (c .before .before .before .before .before .before .before .args .local) (c .before .before .before .before .before .before .before .args .e) (c .before .before .before .before .before .before .before .args .at) (c .before .before .before .before .before .before .before .pre) (sym (c .before .before .before .before .before .repeats .ensures) ∙ c .before .before .before .before .if1 .taken))
-
-add-t17 : tie.Need-add-t17
-add-t17 c = omega (arith, has-lt _ _ _ (sym (c .before .before .before .is-at .ensures) ∙ c .before .before .if2 .taken))
+add-t15 : tie.Need-add-t15
+add-t15 c = omega (arith, has-lt _ _ _ (both-first _ _ (sym (c .before .ends-at .ensures) ∙ c .if2 .taken)))
 
 returns : tie.Need-returns
-returns c = tag-again (classIn (c .before .before .before .before .before .before .before .args .table .now)) (c .before .before .before .before .before .before .before .args .s .now) (c .before .before .before .before .before .before .before .args .b) (c .before .before .before .before .before .before .before .args .local) (c .before .before .before .before .before .before .before .args .e) (c .before .before .before .before .before .before .before .args .at) (c .before .before .before .before .before .before .before .pre) (sym (c .before .before .before .before .before .repeats .ensures) ∙ c .before .before .before .before .if1 .taken) (sym (c .before .before .before .is-at .ensures) ∙ c .before .before .if2 .taken) (sym (ap (leb 4) (c .before .class .ensures)) ∙ lt-leb 4 (c .before .class .result) (omega (arith, c .if3 .taken))) (sym (ap (λ (k : ℕ). eqb k 3) (c .before .class .ensures)) ∙ ne-eqb (c .before .class .result) 3 (λ q. omega (arith, q, c .if3 .taken)))
+returns c =
+    let start = c .before .before .before .before .before in
+    let a = start .args in
+    let again = sym (c .before .before .before .repeats .ensures) ∙ c .before .before .if1 .taken in
+    tag-again (classIn (now (a .table))) (now (a .s)) (a .b) (a .local) (a .e) (a .at) (start .pre) again (sym (c .before .ends-at .ensures) ∙ c .if2 .taken)
 
 name-requires : tie.Need-name-requires
 name-requires c κs = search needs
@@ -63,20 +65,22 @@ byte-requires c κs = search needs
 
 returns-3 : tie.Need-returns-3
 unfolding endTagAt
-returns-3 c = c .byte .ensures ∙ ap (one (is 62) (c .before .before .before .before .before .before .before .before .before .args .s .now)) (c .before .blanks .ensures) ∙ went _ (place-is (c .before .before .before .before .before .name .ensures) (c .before .before .before .r .given .1))
+returns-3 c =
+    let read = c .before .before .before .before .before in
+    let s = now (read .before .before .before .before .args .s) in
+    c .byte .ensures ∙ ap (one (is 62) s) (c .before .blanks .ensures) ∙ went _ (place-is (read .name .ensures) (c .before .before .before .r .given .1))
 
 pub end-tag-spec : {M : Type 1} → statement M
 end-tag-spec =
     tie.close
     (tie.spec
     repeats-requires
-    sub-is-at
-    add-is-at
-    is-at-requires
-    class-requires
-    sub-t15
-    add-t16
-    add-t17
+    sub-ends-at
+    add-ends-at
+    ends-at-requires
+    sub-t13
+    add-t14
+    add-t15
     returns
     name-requires
     enum-known-r

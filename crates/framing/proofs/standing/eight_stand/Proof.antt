@@ -4,8 +4,8 @@ use mathlib.Core.Path.{_≡_, sym}
 use borrow.Author.Needs.{needs}
 use native.Mathlib.Omega.{arith}
 use denote.Ref.{now}
-use Rattle.framing.specs.Standing.{sameAt}
-use Rattle.framing.proofs.Stands.{same-none, same-more}
+use Rattle.laws.specs.Bytes.{sameAt}
+use Rattle.laws.proofs.Same.{same-none, same-more}
 use Rattle.framing.proofs.standing.eight_stand.Statement.{statement}
 use Rattle.framing.proofs.standing.eight_stand.Tie as tie
 

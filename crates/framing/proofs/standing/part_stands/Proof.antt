@@ -7,7 +7,7 @@ use native.Mathlib.Omega.{arith}
 use native.Mathlib.Nat.{zero-add}
 use lib.ListN.{getD}
 use denote.Ref.{now}
-use Rattle.framing.proofs.Stands.{all-same, one-other}
+use Rattle.laws.proofs.Same.{all-same, one-other}
 use Rattle.framing.proofs.standing.part_stands.Statement.{statement}
 use Rattle.framing.proofs.standing.part_stands.Tie as tie
 

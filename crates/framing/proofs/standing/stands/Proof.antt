@@ -1,10 +1,13 @@
 -- `framing::standing::stands` meets its contract: a boundary of 8 bytes and more is its first eight and its last eight. Assumes nothing.
-use mathlib.Core.Path.{sym, _∙_}
+use Prim.Native.Nat.{_+_, _-_}
+use mathlib.Core.Path.{_≡_, sym, _∙_}
 use borrow.Author.Tests.{not-true, not-false}
 use borrow.Author.Needs.{needs}
+use native.Mathlib.Nat.{add-zero, zero-add}
 use native.Mathlib.Omega.{arith}
+use lib.ListN.{length}
 use denote.Ref.{now}
-use Rattle.framing.proofs.Stands.{front-other, two-eights}
+use Rattle.laws.proofs.Same.{other-part, same-joined}
 use Rattle.framing.proofs.standing.stands.Statement.{statement}
 use Rattle.framing.proofs.standing.stands.Tie as tie
 
@@ -21,7 +24,9 @@ returns-2 : tie.Need-returns-2
 returns-2 c =
     let start = c .before .before .before .before .before in
     let a = start .args in
-    sym (front-other (now (a .boundary)) (now (a .piece)) (a .at) (omega arith) (omega arith) (sym (c .before .eight-stand .ensures) ∙ not-true _ (c .if2 .taken)))
+    let b = now (a .boundary) in
+    let front = sym (c .before .eight-stand .ensures) ∙ not-true _ (c .if2 .taken) in
+    sym (other-part b 0 (now (a .piece)) (a .at) 0 8 (omega arith) (omega arith) (length b) (omega arith) (rw (add-zero (a .at)) front))
 
 add-eight-stand : tie.Need-add-eight-stand
 add-eight-stand c = search needs
@@ -33,8 +38,10 @@ returns-3 : tie.Need-returns-3
 returns-3 c =
     let start = c .before .before .before .before .before .before in
     let a = start .args in
+    let b = now (a .boundary) in
     let front = sym (c .before .before .eight-stand .ensures) ∙ not-false _ (c .before .if2 .left) in
-    c .eight-stand2 .ensures ∙ two-eights (now (a .boundary)) (now (a .piece)) (a .at) (omega arith) (omega arith) (omega arith) front
+    let all : length b - 8 + 8 ≡ length b = omega arith in
+    c .eight-stand2 .ensures ∙ rw (zero-add, all) at (same-joined b 0 (now (a .piece)) (a .at) (length b - 8) 8 (omega arith) (omega arith) 8 (omega arith) front)
 
 pub stands-spec : {M : Type 1} → statement M
 stands-spec =

@@ -1,4 +1,4 @@
--- `scan::bytes::few` meets its contract: where four bytes stand in the message each is looked at in turn, and where fewer do a fourth changes nothing. Assumes nothing.
+-- `scan::bytes::few` meets its contract: each byte is looked at where those before it have passed. Assumes nothing.
 use borrow.Author.Needs.{needs}
 use Rattle.scan.proofs.bytes.few.Statement.{statement}
 use Rattle.scan.proofs.bytes.few.Tie as tie
@@ -12,7 +12,7 @@ use lib.Dec.{leb}
 use borrow.Author.Tests.{le-leb, lt-leb}
 use Rattle.message.specs.Class.{atLeast}
 use Rattle.message.specs.Reading.{byteAt, has, upTo}
-use Rattle.message.proofs.Laws.{has-in, up-yes, up-on, up-no, up-short}
+use Rattle.message.proofs.Laws.{has-in, up-yes, up-on, up-no}
 
 module _ (class : ℕ → ℕ) (least : ℕ) (s : List ℕ) (at : ℕ) {r : ℕ} (r-is : r ≡ class (byteAt s at)) (inside : at < length s) where
   passes : least ≤ r → has (atLeast class least) s at ≡ true
@@ -21,29 +21,14 @@ module _ (class : ℕ → ℕ) (least : ℕ) (s : List ℕ) (at : ℕ) {r : ℕ}
   fails : r < least → has (atLeast class least) s at ≡ false
   fails h = has-in _ s at inside ∙ sym (ap (leb least) r-is) ∙ lt-leb least r h
 
-last-few-requires : tie.Need-last-few-requires
-last-few-requires c κs = search needs
-
-returns : tie.Need-returns
-returns c = c .last-few .ensures ∙ up-short _ _ 3 _ (omega arith)
-
-sub-if2 : tie.Need-sub-if2
-sub-if2 c = search needs
-
-last-few-requires-2 : tie.Need-last-few-requires-2
-last-few-requires-2 c κs = search needs
-
-returns-2 : tie.Need-returns-2
-returns-2 c = c .last-few2 .ensures ∙ up-short _ _ 3 _ (omega arith)
-
 shared-slice-read-class : tie.Need-shared-slice-read-class
 shared-slice-read-class c = search needs
 
 class-requires : tie.Need-class-requires
 class-requires c κs = search needs
 
-returns-3 : tie.Need-returns-3
-returns-3 c = up-no _ _ _ _ (fails _ _ _ _ (c .before .class .ensures) (omega arith) (c .if3 .taken))
+returns : tie.Need-returns
+returns c = up-no _ _ _ _ (fails _ _ _ _ (c .before .class .ensures) (omega arith) (c .if1 .taken))
 
 add-class : tie.Need-add-class
 add-class c = search needs
@@ -54,9 +39,9 @@ shared-slice-read-class-2 c = search needs
 class-requires-2 : tie.Need-class-requires-2
 class-requires-2 c κs = search needs
 
-returns-4 : tie.Need-returns-4
-returns-4 c = up-yes _ _ _ _ (passes _ _ _ _ (c .before .before .before .before .class .ensures) (omega arith) (c .before .before .before .if3 .left)) (
-    up-no _ _ _ _ (fails _ _ _ _ (c .before .class2 .ensures) (omega arith) (c .if4 .taken)))
+returns-2 : tie.Need-returns-2
+returns-2 c = up-yes _ _ _ _ (passes _ _ _ _ (c .before .before .before .before .class .ensures) (omega arith) (c .before .before .before .if1 .left)) (
+    up-no _ _ _ _ (fails _ _ _ _ (c .before .class2 .ensures) (omega arith) (c .if2 .taken)))
 
 add-class-2 : tie.Need-add-class-2
 add-class-2 c = search needs
@@ -67,10 +52,10 @@ shared-slice-read-class-3 c = search needs
 class-requires-3 : tie.Need-class-requires-3
 class-requires-3 c κs = search needs
 
-returns-5 : tie.Need-returns-5
-returns-5 c = up-yes _ _ _ _ (passes _ _ _ _ (c .before .before .before .before .before .before .before .class .ensures) (omega arith) (c .before .before .before .before .before .before .if3 .left)) (
-    up-on _ _ _ _ 1 (passes _ _ _ _ (c .before .before .before .before .class2 .ensures) (omega arith) (c .before .before .before .if4 .left)) (
-    up-no _ _ _ _ (fails _ _ _ _ (c .before .class3 .ensures) (omega arith) (c .if5 .taken))))
+returns-3 : tie.Need-returns-3
+returns-3 c = up-yes _ _ _ _ (passes _ _ _ _ (c .before .before .before .before .before .before .before .class .ensures) (omega arith) (c .before .before .before .before .before .before .if1 .left)) (
+    up-on _ _ _ _ 1 (passes _ _ _ _ (c .before .before .before .before .class2 .ensures) (omega arith) (c .before .before .before .if2 .left)) (
+    up-no _ _ _ _ (fails _ _ _ _ (c .before .class3 .ensures) (omega arith) (c .if3 .taken))))
 
 add-class-3 : tie.Need-add-class-3
 add-class-3 c = search needs
@@ -81,41 +66,36 @@ shared-slice-read-class-4 c = search needs
 class-requires-4 : tie.Need-class-requires-4
 class-requires-4 c κs = search needs
 
-returns-6 : tie.Need-returns-6
-returns-6 c = up-yes _ _ _ _ (passes _ _ _ _ (c .before .before .before .before .before .before .before .before .before .before .class .ensures) (omega arith) (c .before .before .before .before .before .before .before .before .before .if3 .left)) (
-    up-on _ _ _ _ 1 (passes _ _ _ _ (c .before .before .before .before .before .before .before .class2 .ensures) (omega arith) (c .before .before .before .before .before .before .if4 .left)) (
-    up-on _ _ _ _ 2 (passes _ _ _ _ (c .before .before .before .before .class3 .ensures) (omega arith) (c .before .before .before .if5 .left)) (
-    up-no _ _ _ _ (fails _ _ _ _ (c .before .class4 .ensures) (omega arith) (c .if6 .taken)))))
+returns-4 : tie.Need-returns-4
+returns-4 c = up-yes _ _ _ _ (passes _ _ _ _ (c .before .before .before .before .before .before .before .before .before .before .class .ensures) (omega arith) (c .before .before .before .before .before .before .before .before .before .if1 .left)) (
+    up-on _ _ _ _ 1 (passes _ _ _ _ (c .before .before .before .before .before .before .before .class2 .ensures) (omega arith) (c .before .before .before .before .before .before .if2 .left)) (
+    up-on _ _ _ _ 2 (passes _ _ _ _ (c .before .before .before .before .class3 .ensures) (omega arith) (c .before .before .before .if3 .left)) (
+    up-no _ _ _ _ (fails _ _ _ _ (c .before .class4 .ensures) (omega arith) (c .if4 .taken)))))
 
-returns-7 : tie.Need-returns-7
+returns-5 : tie.Need-returns-5
 unfolding upTo
-returns-7 c = up-yes _ _ 3 _ (passes _ _ _ _ (c .before .before .before .before .before .before .before .before .before .before .class .ensures) (omega arith) (c .before .before .before .before .before .before .before .before .before .if3 .left)) (
-    up-on _ _ 2 _ 1 (passes _ _ _ _ (c .before .before .before .before .before .before .before .class2 .ensures) (omega arith) (c .before .before .before .before .before .before .if4 .left)) (
-    up-on _ _ 1 _ 2 (passes _ _ _ _ (c .before .before .before .before .class3 .ensures) (omega arith) (c .before .before .before .if5 .left)) (
-    up-on _ _ 0 _ 3 (passes _ _ _ _ (c .before .class4 .ensures) (omega arith) (c .if6 .left)) refl)))
+returns-5 c = up-yes _ _ 3 _ (passes _ _ _ _ (c .before .before .before .before .before .before .before .before .before .before .class .ensures) (omega arith) (c .before .before .before .before .before .before .before .before .before .if1 .left)) (
+    up-on _ _ 2 _ 1 (passes _ _ _ _ (c .before .before .before .before .before .before .before .class2 .ensures) (omega arith) (c .before .before .before .before .before .before .if2 .left)) (
+    up-on _ _ 1 _ 2 (passes _ _ _ _ (c .before .before .before .before .class3 .ensures) (omega arith) (c .before .before .before .if3 .left)) (
+    up-on _ _ 0 _ 3 (passes _ _ _ _ (c .before .class4 .ensures) (omega arith) (c .if4 .left)) refl)))
 
 pub few-spec : {M : Type 1} → statement M
 few-spec =
     tie.close
     (tie.spec
-    last-few-requires
-    returns
-    sub-if2
-    last-few-requires-2
-    returns-2
     shared-slice-read-class
     class-requires
-    returns-3
+    returns
     add-class
     shared-slice-read-class-2
     class-requires-2
-    returns-4
+    returns-2
     add-class-2
     shared-slice-read-class-3
     class-requires-3
-    returns-5
+    returns-3
     add-class-3
     shared-slice-read-class-4
     class-requires-4
-    returns-6
-    returns-7)
+    returns-4
+    returns-5)

@@ -1,34 +1,39 @@
--- `text::runs::text` meets its contract: at each stop that the loop comes to, what is left to read gives what was asked for at the start. Assumes nothing.
+-- `text::runs::text` meets its contract: behind the plain text at each place that the loop comes to, what is left to read gives what was asked for at the start. Assumes nothing.
 use Rattle.text.proofs.runs.text.Statement.{statement}
 use Rattle.text.proofs.runs.text.Tie as tie
 use borrow.Author.Needs.{needs}
 use Prim.Native.Nat.{_-_}
-use mathlib.Core.Path.{sym, ap, _∙_}
+use mathlib.Core.Path.{refl, sym, subst⁻¹, _∙_}
 use native.Mathlib.Omega.{arith}
 use lib.ListN.{length}
-use borrow.Author.Tests.{not-true, not-false}
-use Rattle.message.specs.Class.{classIn}
+use Rattle.message.specs.Class.{classIn, isPlain}
+use Rattle.message.specs.Reading.{ends}
 use Rattle.message.specs.Text.{textAt}
-use Rattle.scan.specs.Answers.{placeSaid}
-use Rattle.message.proofs.Laws.{went, stopped, cond-true, cond-false, ends-after}
-use Rattle.scan.proofs.Said.{place-is}
+use Rattle.message.proofs.Laws.{went, cond-true, cond-false, ends-after}
+use Rattle.scan.proofs.Said.{place-is, handed}
 use Rattle.message.proofs.Progress.{beyond-plain-on}
 use Rattle.message.proofs.Loops.{Left, left-first, left-on, left-done, texts}
 
 abbrev Inv-loop : tie.InvT-loop
-Inv-loop s table at i₀ i = Left (texts (classIn table) s) (textAt (classIn table) (length s) s at) i
+Inv-loop s table at i₀ i = Left (texts (classIn table) s) (textAt (classIn table) (length s) s at) (ends (isPlain (classIn table)) s i)
 
 abbrev μ-loop : tie.MeasureT-loop
 μ-loop s table at i₀ i = length s - i
 
+loop-holds : tie.Need-loop-holds Inv-loop μ-loop
+loop-holds c = left-first (texts _ _) _ refl
+
 plain-end-requires : tie.Need-plain-end-requires Inv-loop μ-loop
 plain-end-requires c κs = search needs
 
-loop-holds : tie.Need-loop-holds Inv-loop μ-loop
-loop-holds c = left-first (texts _ _) _ (c .plain-end .ensures)
-
 is-at-requires : tie.Need-is-at-requires Inv-loop μ-loop
 is-at-requires c κs = search needs
+
+returns : tie.Need-returns Inv-loop μ-loop
+returns c =
+    let stop = c .before .before in
+    let left = subst⁻¹ (Left (texts _ _) _) (stop .plain-end .ensures) (stop .before .loop .inv) in
+    left-done (texts _ _) (λ next. cond-true _ (sym (c .before .is-at .ensures) ∙ c .if1 .taken)) left
 
 beyond-plain-requires : tie.Need-beyond-plain-requires Inv-loop μ-loop
 beyond-plain-requires c κs = search needs
@@ -39,23 +44,28 @@ enum-known-r c = search needs
 enum-told : tie.Need-enum-told Inv-loop μ-loop
 enum-told c = search needs
 
-returns : tie.Need-returns Inv-loop μ-loop
-returns c = ap placeSaid (c .enum-told .given .1) ∙ left-done (texts _ _) (λ next. stopped next (place-is (c .before .before .beyond-plain .ensures) (c .enum-told .given .1)) ∙ cond-false _ (sym (c .before .before .before .before .is-at .ensures) ∙ not-true _ (c .before .before .before .if1 .taken))) (c .before .before .before .before .before .loop .inv)
-
-plain-end-requires-2 : tie.Need-plain-end-requires-2 Inv-loop μ-loop
-plain-end-requires-2 c κs = search needs
+returns-2 : tie.Need-returns-2 Inv-loop μ-loop
+returns-2 c =
+    let test = c .before .before .before in
+    let stop = test .before .before in
+    let left = subst⁻¹ (Left (texts _ _) _) (stop .plain-end .ensures) (stop .before .loop .inv) in
+    left-done (texts _ _) (λ next.
+    handed next (c .before .before .beyond-plain .ensures) (c .enum-told .given .1) ∙ cond-false _ (sym (test .before .is-at .ensures) ∙ test .if1 .left)) left
 
 loop-less : tie.Need-loop-less Inv-loop μ-loop
-loop-less c = omega (arith, beyond-plain-on _ _ _ _ (place-is (c .before .before .before .before .beyond-plain .ensures) (c .before .before .r .given .1)), ends-after _ _ _ (c .plain-end2 .ensures))
+loop-less c =
+    let beyond = c .before .before .before in
+    omega (arith, beyond-plain-on _ _ _ _ (place-is (beyond .beyond-plain .ensures) (c .before .r .given .1)), ends-after _ _ _ (beyond .before .before .before .plain-end .ensures))
 
 loop-again : tie.Need-loop-again Inv-loop μ-loop
-loop-again c = left-on (texts _ _) _ (c .plain-end2 .ensures)
-    (beyond-plain-on _ _ _ _ (place-is (c .before .before .before .before .beyond-plain .ensures) (c .before .before .r .given .1)) .0)
-    (λ next. went next (place-is (c .before .before .before .before .beyond-plain .ensures) (c .before .before .r .given .1)) ∙ cond-false _ (sym (c .before .before .before .before .before .before .is-at .ensures) ∙ not-true _ (c .before .before .before .before .before .if1 .taken)))
-    (c .before .before .before .before .before .before .before .loop .inv)
-
-returns-2 : tie.Need-returns-2 Inv-loop μ-loop
-returns-2 c = left-done (texts _ _) (λ next. cond-true _ (sym (c .before .is-at .ensures) ∙ not-false _ (c .if1 .left))) (c .before .before .loop .inv)
+loop-again c =
+    let beyond = c .before .before .before in
+    let test = beyond .before in
+    let stop = test .before .before in
+    let read = place-is (beyond .beyond-plain .ensures) (c .before .r .given .1) in
+    let left = subst⁻¹ (Left (texts _ _) _) (stop .plain-end .ensures) (stop .before .loop .inv) in
+    left-on (texts _ _) _ refl (beyond-plain-on _ _ _ _ read .0)
+    (λ next. went next read ∙ cond-false _ (sym (test .before .is-at .ensures) ∙ test .if1 .left)) left
 
 pub text-spec : {M : Type 1} → statement M
 text-spec =
@@ -63,14 +73,13 @@ text-spec =
     (tie.spec
     Inv-loop
     μ-loop
-    plain-end-requires
     loop-holds
+    plain-end-requires
     is-at-requires
+    returns
     beyond-plain-requires
     enum-known-r
     enum-told
-    returns
-    plain-end-requires-2
+    returns-2
     loop-less
-    loop-again
-    returns-2)
+    loop-again)
