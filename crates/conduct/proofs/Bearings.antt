@@ -31,6 +31,7 @@ use Rattle.conduct.specs.declared.Awaited.{Awaited}
 use Rattle.conduct.specs.declared.Awaited.the-variants as awaited
 use Rattle.conduct.specs.declared.State.{State}
 use Rattle.conduct.specs.declared.State.the-variants.{Waiting, Connecting, Opening, Confirming, Up, Stopped}
+use Rattle.conduct.specs.declared.Site.{Site}
 use Rattle.conduct.specs.declared.Pushed.{Pushed}
 use Rattle.conduct.specs.declared.Push.{Push}
 use Rattle.conduct.specs.declared.Event.{Event}
@@ -118,11 +119,11 @@ same-tale (advised ∷ bs) what sent age n n′ h h′ = refl
 
 -- ---- a call, and a push p with the number n, in Up, where n is an open push's number and not the open SessionOk's
 
-module _ (n : ℕ) (p : Push) (own : p .number ≡ n) (interval last : ℕ) (waiting : Awaited) (age : ℕ) (ps : List Push)
+module _ (n : ℕ) (p : Push) (own : p .number ≡ n) (site : Site) (last : ℕ) (waiting : Awaited) (age : ℕ) (ps : List Push)
     (not-awaited : among n (awaitedNumbers waiting) ≡ false) (is-open : among n (pushNumbers ps) ≡ true)
   where
     abbrev s : Session
-    s = record { interval = interval; state = Up waiting age; pushes = ps; last = last }
+    s = record { site = site; state = Up waiting age; pushes = ps; last = last }
 
     abbrev fateFrom : Move → Fate
     fateFrom m = fateOf (m .sweep) p
@@ -195,8 +196,8 @@ module _ (n : ℕ) (p : Push) (own : p .number ≡ n) (interval last : ℕ) (wai
     abbrev TickIs : Move → Type 0
     TickIs m = isUp (m .to) ≡ true → fateFrom m ≡ fateOf sweeps.Older p
 
-    tick-is : (next : ℕ) (w : Awaited) → TickIs (tick interval next (Up w age))
-    tick-is next awaited.Nothing = cond-both TickIs (ltb (age + 1) interval) (λ u. refl) (λ u. refl)
+    tick-is : (next : ℕ) (w : Awaited) → TickIs (tick (site .interval) next (Up w age))
+    tick-is next awaited.Nothing = cond-both TickIs (ltb (age + 1) (site .interval)) (λ u. refl) (λ u. refl)
     tick-is next (awaited.Ok number) = cond-both TickIs (ltb age 19) (λ u. refl) (λ u. absurd (true-false u refl))
 
     call-is : (c : Call) → isUp (moveOf s c .to) ≡ true → fateFrom (moveOf s c) ≡ fateIn (callBearing n c) p
@@ -233,18 +234,18 @@ module _ {B : Type 0} (g : Fate → List B) (n : ℕ) (c : Call) where
       flat (λ (p : Push). g (fateOf (moveOf s c .sweep) p)) (mine n (s .pushes))
       ≡ flat (λ (p : Push). g (fateIn (callBearing n c) p)) (mine n (s .pushes))
 
-  borne-up : (interval last : ℕ) (w : Awaited) (age : ℕ) (ps : List Push)
-      → let s : Session = record { interval = interval; state = Up w age; pushes = ps; last = last } in
+  borne-up : (site : Site) (last : ℕ) (w : Awaited) (age : ℕ) (ps : List Push)
+      → let s : Session = record { site = site; state = Up w age; pushes = ps; last = last } in
       distinct (held s) ≡ true → isUp (moveOf s c .to) ≡ true → Borne s
-  borne-up interval last w age ps d u = go (among n (pushNumbers ps)) refl
+  borne-up site last w age ps d u = go (among n (pushNumbers ps)) refl
     where
       s : Session
-      s = record { interval = interval; state = Up w age; pushes = ps; last = last }
+      s = record { site = site; state = Up w age; pushes = ps; last = last }
 
       go : (b : Bool) → among n (pushNumbers ps) ≡ b → Borne s
       go true e =
           flat-mine n (λ (p : Push). g (fateOf (moveOf s c .sweep) p)) (λ (p : Push). g (fateIn (callBearing n c) p))
-          (λ p own. ap g (call-is n p own interval last w age ps (not-awaited-too n w (pushNumbers ps) d e) e c u))
+          (λ p own. ap g (call-is n p own site last w age ps (not-awaited-too n w (pushNumbers ps) d e) e c u))
           ps
       go false e = rw (none-mine n ps e)
 
@@ -258,7 +259,7 @@ module _ {B : Type 0} (g : Fate → List B) (n : ℕ) (c : Call) where
       go (Confirming number age) e u = absurd (true-false u refl)
       go (Up w age) e u =
           subst⁻¹ (λ (t : Session). distinct (held t) ≡ true → isUp (moveOf t c .to) ≡ true → Borne t)
-          (λ i. record { interval = s .interval; state = e i; pushes = s .pushes; last = s .last })
-          (borne-up (s .interval) (s .last) w age (s .pushes))
+          (λ i. record { site = s .site; state = e i; pushes = s .pushes; last = s .last })
+          (borne-up (s .site) (s .last) w age (s .pushes))
           (good {s = s} ok .numbers-are) stays
       go Stopped e u = absurd (true-false u refl)

@@ -76,7 +76,7 @@ counts c a = cond (eqb (a .refusal) 0 && isTick c) 1 0
 pub by-turns : (P : ℕ → Answered → Type 0) (s : Session) (c : Call)
     → ((k : ℕ) → P 0 (record { refusal = suc k; next = s; events = [] }))
     → ((m : Move) → Onward (nextNumber s) c (s .state) m → P 0 (taken s m))
-    → (c ≡ calls.Tick → P 1 (taken s (tick (s .interval) (nextNumber s) (s .state))))
+    → (c ≡ calls.Tick → P 1 (taken s (tick (s .site .interval) (nextNumber s) (s .state))))
     → P (counts c (step s c)) (step s c)
 by-turns P s c refused led ticked = go (refusalOf s c) refl
   where
@@ -95,10 +95,10 @@ by-turns P s c refused led ticked = go (refusalOf s c) refl
 
 -- a tick where the session is not stopped
 pub tick-taken : (s : Session) (state : State) → s .state ≡ state → isStopped state ≡ false
-    → step s calls.Tick ≡ taken s (tick (s .interval) (nextNumber s) state)
+    → step s calls.Tick ≡ taken s (tick (s .site .interval) (nextNumber s) state)
 tick-taken s state e going =
     let accepts : refusalOf s calls.Tick ≡ 0 = rw (e, going) in
-    ap (λ (k : ℕ). answer k s calls.Tick) accepts ∙ ap (λ (st : State). taken s (tick (s .interval) (nextNumber s) st)) e
+    ap (λ (k : ℕ). answer k s calls.Tick) accepts ∙ ap (λ (st : State). taken s (tick (s .site .interval) (nextNumber s) st)) e
 
 -- ---- calls one after the other
 

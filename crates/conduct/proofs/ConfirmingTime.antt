@@ -43,7 +43,7 @@ confirming-lasts s cs n ok e st =
     let now : t .state ≡ Confirming n a =
     lasting 4 (omega arith) (λ (k : ℕ) (state : State). state ≡ Confirming n k) (λ k state f. rw f) (confirming-on n) cs s ok e st
     in
-    let sound-now : soundState (t .interval) (Confirming n a) ≡ true = rw now at (good {s = t} (reached-is-sound s cs ok) .state-is) in
+    let sound-now : soundState (t .site .interval) (Confirming n a) ≡ true = rw now at (good {s = t} (reached-is-sound s cs ok) .state-is) in
     record {
       shorter = ltb-true a 20 sound-now;
       quiet = confirming-quiet t n a now;

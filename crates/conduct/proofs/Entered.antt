@@ -143,6 +143,6 @@ pub entered-afresh : EnteredAfresh
 entered-afresh s c =
     let f : Fresh (s .state) (step s c .next .state) (saysSessionOk (step s c .events)) =
     by-turns (λ (k : ℕ) (r : Answered). Fresh (s .state) (r .next .state) (saysSessionOk (r .events))) s c
-    (λ k. alike (s .state) (s .state) false refl) (onward-fresh s) (λ e. tick-fresh s (s .interval) (nextNumber s) (s .state))
+    (λ k. alike (s .state) (s .state) false refl) (onward-fresh s) (λ e. tick-fresh s (s .site .interval) (nextNumber s) (s .state))
     in
     record { opening = f .opening; confirming = f .confirming; up = f .up; waiting = f .waiting }

@@ -67,24 +67,24 @@ pub data Taking (s : Session) (m : Move) : Type 0 where
       → newPushes s m ≡ opened what (sentNumber s m) handle ∷ [] → length (s .pushes) < 32 → Taking s m
 
 pub record Fair (s : Session) (m : Move) : Type 0 where
-  pub to-is : soundState (s .interval) (m .to) ≡ true
+  pub to-is : soundState (s .site .interval) (m .to) ≡ true
   pub leaving : isUp (m .to) ≡ false → (m .sweep ≡ sweeps.Lost) ⊎ (isUp (s .state) ≡ false)
   pub taking : Taking s m
 
 module _ (s : Session) where
   -- ---- to a state like the one before, to Up with nothing awaited, and away
 
-  alike : {old : State} → s .state ≡ old → (to : State) (sweep : Sweep) (remark : Remark) → soundState (s .interval) to ≡ true
+  alike : {old : State} → s .state ≡ old → (to : State) (sweep : Sweep) (remark : Remark) → soundState (s .site .interval) to ≡ true
       → isUp to ≡ isUp old → sessionOkNumbers to ≡ sessionOkNumbers old → opens (nextNumber s) remark ≡ []
       → Fair s (record { to = to; parting = partings.Nothing; sweep = sweep; remark = remark })
   alike e to sweep remark t u n o =
       record { to-is = t; leaving = λ f. inr (ap isUp e ∙ (sym u ∙ f)); taking = holds (n ∙ sym (ap sessionOkNumbers e)) o }
 
-  rests : (age : ℕ) (remark : Remark) → ltb age (s .interval) ≡ true → opens (nextNumber s) remark ≡ []
+  rests : (age : ℕ) (remark : Remark) → ltb age (s .site .interval) ≡ true → opens (nextNumber s) remark ≡ []
       → Fair s (goes (Up awaited.Nothing age) remark)
   rests age remark t o = record { to-is = t; leaving = λ f. absurd (true-false refl f); taking = frees refl o }
 
-  away : (to : State) (parting : Parting) → soundState (s .interval) to ≡ true → sessionOkNumbers to ≡ [] → Fair s (leaves to parting)
+  away : (to : State) (parting : Parting) → soundState (s .site .interval) to ≡ true → sessionOkNumbers to ≡ [] → Fair s (leaves to parting)
   away to parting t n = record { to-is = t; leaving = λ e. inl refl; taking = frees n refl }
 
   waits-fair : (parting : Parting) → Fair s (waits parting)
@@ -94,7 +94,7 @@ module _ (s : Session) where
   not-yet : (age : ℕ) → ltb age 19 ≡ true → ltb (age + 1) 20 ≡ true
   not-yet age l = let a = ltb-true age 19 l in lt-ltb (age + 1) 20 (omega arith)
 
-  tick-fair : (state : State) → s .state ≡ state → soundState (s .interval) state ≡ true → Fair s (tick (s .interval) (nextNumber s) state)
+  tick-fair : (state : State) → s .state ≡ state → soundState (s .site .interval) state ≡ true → Fair s (tick (s .site .interval) (nextNumber s) state)
   tick-fair (Waiting left) e t =
       cond-cases (Fair s) (ltb 1 left) (λ l. alike e (Waiting (left - 1)) sweeps.Still remarks.Nothing (fewer l) refl refl refl)
       (λ l. alike e Connecting sweeps.Still _ refl refl refl refl)
@@ -117,7 +117,7 @@ module _ (s : Session) where
       (λ l. alike e (Up (awaited.Ok number) (age + 1)) sweeps.Older remarks.Nothing (not-yet age l) refl refl refl)
       (λ l. waits-fair _)
   tick-fair (Up awaited.Nothing age) e t =
-      cond-cases (Fair s) (ltb (age + 1) (s .interval))
+      cond-cases (Fair s) (ltb (age + 1) (s .site .interval))
       (λ l. alike e (Up awaited.Nothing (age + 1)) sweeps.Older remarks.Nothing l refl refl refl)
       (λ l. record { to-is = refl; leaving = λ f. absurd (true-false refl f); taking = sends refl refl })
   tick-fair Stopped e t = alike e Stopped sweeps.Still remarks.Nothing refl refl refl refl
@@ -159,17 +159,17 @@ module _ (s : Session) where
     same state e sweep remark o = alike e state sweep remark (rw (← e) (g .state-is)) refl refl o
 
     -- less than 20 ticks are less than the interval
-    within : (age : ℕ) → ltb age 20 ≡ true → ltb age (s .interval) ≡ true
+    within : (age : ℕ) → ltb age 20 ≡ true → ltb age (s .site .interval) ≡ true
     within age t =
         let a = ltb-true age 20 t in
-        let b = leb-true 21 (s .interval) (both-of (leb 21 (s .interval)) (leb (s .interval) 6000) (g .interval-is) .0) in
-        lt-ltb age (s .interval) (omega arith)
+        let b = leb-true 21 (s .site .interval) (both-of (leb 21 (s .site .interval)) (leb (s .site .interval) 6000) (g .interval-is) .0) in
+        lt-ltb age (s .site .interval) (omega arith)
 
-    rested : (waiting : Awaited) (age : ℕ) → soundState (s .interval) (Up waiting age) ≡ true → ltb age (s .interval) ≡ true
+    rested : (waiting : Awaited) (age : ℕ) → soundState (s .site .interval) (Up waiting age) ≡ true → ltb age (s .site .interval) ≡ true
     rested awaited.Nothing age t = t
     rested (awaited.Ok n) age t = within age t
 
-    ok-fair : (n : ℕ) (state : State) → s .state ≡ state → soundState (s .interval) state ≡ true → Fair s (okNaming s n state)
+    ok-fair : (n : ℕ) (state : State) → s .state ≡ state → soundState (s .site .interval) state ≡ true → Fair s (okNaming s n state)
     ok-fair n (Waiting left) e t = same (Waiting left) e _ _ refl
     ok-fair n Connecting e t = same Connecting e _ _ refl
     ok-fair n (Opening age) e t = same (Opening age) e _ _ refl
@@ -184,7 +184,7 @@ module _ (s : Session) where
     acknowledged-fair numbers.Nothing = same (s .state) refl _ _ refl
     acknowledged-fair (numbers.Names n) = ok-fair n (s .state) refl (g .state-is)
 
-    advisory-fair : (advice : Advice) (n : ℕ) (state : State) → s .state ≡ state → soundState (s .interval) state ≡ true
+    advisory-fair : (advice : Advice) (n : ℕ) (state : State) → s .state ≡ state → soundState (s .site .interval) state ≡ true
         → Fair s (advisoryNaming s advice n state)
     advisory-fair advice n (Waiting left) e t = same (Waiting left) e _ _ refl
     advisory-fair advice n Connecting e t = same Connecting e _ _ refl

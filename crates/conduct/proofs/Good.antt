@@ -22,8 +22,8 @@ use Rattle.conduct.proofs.Lists.{both, both-of, length-none}
 use Rattle.conduct.proofs.Free.{next-is-free}
 
 pub record Good (s : Session) : Type 0 where
-  pub interval-is : allowedInterval (s .interval) ≡ true
-  pub state-is : soundState (s .interval) (s .state) ≡ true
+  pub interval-is : allowedInterval (s .site .interval) ≡ true
+  pub state-is : soundState (s .site .interval) (s .state) ≡ true
   pub room : length (s .pushes) ≤ 32
   -- outside Up no push is open
   pub quiet : isUp (s .state) ≡ false → s .pushes ≡ []
@@ -42,8 +42,8 @@ of-quiet false ps h = rw (h refl)
 
 pub good : {s : Session} → sound s ≡ true → Good s
 good {s} h =
-    let a = both-of (allowedInterval (s .interval)) _ h in
-    let b = both-of (soundState (s .interval) (s .state)) _ (a .1) in
+    let a = both-of (allowedInterval (s .site .interval)) _ h in
+    let b = both-of (soundState (s .site .interval) (s .state)) _ (a .1) in
     let c = both-of (leb (length (s .pushes)) 32) _ (b .1) in
     let d = both-of (isUp (s .state) || eqb (length (s .pushes)) 0) _ (c .1) in
     let e = both-of (all soundPush (s .pushes)) _ (d .1) in

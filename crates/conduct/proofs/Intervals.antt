@@ -15,7 +15,7 @@ use Rattle.conduct.specs.Sound.{soundState, sound}
 use Rattle.conduct.specs.Rules.{tick, nextNumber}
 use Rattle.conduct.specs.Step.{Answered, step}
 use Rattle.conduct.specs.History.{Entry, entry, history, sessionAfter, ticks}
-use Rattle.conduct.specs.Timers.{saysSessionOk, isConfirmingOrUp, EveryInterval, IntervalKept}
+use Rattle.conduct.specs.Timers.{saysSessionOk, isConfirmingOrUp, EveryInterval, SiteKept}
 use Rattle.conduct.specs.declared.Awaited.the-variants as awaited
 use Rattle.conduct.specs.declared.State.{State}
 use Rattle.conduct.specs.declared.State.the-variants.{Waiting, Connecting, Opening, Confirming, Up, Stopped}
@@ -118,7 +118,7 @@ onward-counts m (ends more to q) h t = absurd (true-false t (ap isConfirmingOrUp
 onward-counts m (stops to q) h t = absurd (true-false t (ap isConfirmingOrUp to))
 
 record Since (interval a : ℕ) (s : Session) : Type 0 where
-  its-interval : s .interval ≡ interval
+  its-interval : s .site .interval ≡ interval
   stands : isConfirmingOrUp (s .state) ≡ true
   aged : since (s .state) ≡ a
 
@@ -130,8 +130,8 @@ one-more s c interval a h =
     (λ k t q. record { its-interval = h .its-interval; stands = t; aged = h .aged ∙ sym (plus-none a) })
     (λ m o t q. record { its-interval = h .its-interval; stands = t; aged = onward-counts m o (h .stands) t ∙ (h .aged ∙ sym (plus-none a)) })
     (λ e t q.
-    let unsaid = sym (says-by s (tick (s .interval) (nextNumber s) (s .state))) ∙ q in
-    let counted-one = tick-counts (s .interval) (nextNumber s) (s .state) (h .stands) t unsaid in
+    let unsaid = sym (says-by s (tick (s .site .interval) (nextNumber s) (s .state))) ∙ q in
+    let counted-one = tick-counts (s .site .interval) (nextNumber s) (s .state) (h .stands) t unsaid in
     record { its-interval = h .its-interval; stands = t; aged = counted-one ∙ ap (λ (k : ℕ). k + 1) (h .aged) })
 
 -- ---- over any calls
@@ -149,7 +149,7 @@ since-sent interval cs s ok h k =
     (one-more t c interval a h (q .0) (not-true (saysSessionOk (entry t c .events)) (q .1)), b .1))
     cs s ok h k
 
-at-first : (s : Session) (n : ℕ) → (s .state ≡ Confirming n 0) ⊎ (s .state ≡ Up (awaited.Ok n) 0) → Since (s .interval) 0 s
+at-first : (s : Session) (n : ℕ) → (s .state ≡ Confirming n 0) ⊎ (s .state ≡ Up (awaited.Ok n) 0) → Since (s .site .interval) 0 s
 at-first s n (inl e) = record { its-interval = refl; stands = ap isConfirmingOrUp e; aged = ap since e }
 at-first s n (inr e) = record { its-interval = refl; stands = ap isConfirmingOrUp e; aged = ap since e }
 
@@ -163,18 +163,18 @@ going Stopped h = absurd (true-false h refl)
 
 -- what a tick says where the session is confirming or up
 tick-events : (t : Session) → isConfirmingOrUp (t .state) ≡ true
-    → saysSessionOk (step t calls.Tick .events) ≡ isSessionOk (tick (t .interval) (nextNumber t) (t .state) .remark)
+    → saysSessionOk (step t calls.Tick .events) ≡ isSessionOk (tick (t .site .interval) (nextNumber t) (t .state) .remark)
 tick-events t h =
     ap (λ (r : Answered). saysSessionOk (r .events)) (tick-taken t (t .state) refl (going (t .state) h))
-    ∙ says-by t (tick (t .interval) (nextNumber t) (t .state))
+    ∙ says-by t (tick (t .site .interval) (nextNumber t) (t .state))
 
 pub every-interval : EveryInterval
 every-interval s cs n ok e unsent-so-far =
     let t : Session = sessionAfter s cs in
-    let now : Since (s .interval) (ticks (history s cs)) t = since-sent (s .interval) cs s ok (at-first s n e) unsent-so-far in
+    let now : Since (s .site .interval) (ticks (history s cs)) t = since-sent (s .site .interval) cs s ok (at-first s n e) unsent-so-far in
     let g : Good t = good {s = t} (reached-is-sound s cs ok) in
-    let long = leb-true 21 (t .interval) (both-of (leb 21 (t .interval)) _ (g .interval-is) .0) in
-    let says : Ticks (t .interval) (nextNumber t) (t .state) = tick-says (t .interval) (nextNumber t) (t .state) long (now .stands) (g .state-is) in
+    let long = leb-true 21 (t .site .interval) (both-of (leb 21 (t .site .interval)) _ (g .interval-is) .0) in
+    let says : Ticks (t .site .interval) (nextNumber t) (t .state) = tick-says (t .site .interval) (nextNumber t) (t .state) long (now .stands) (g .state-is) in
     record {
       shorter = omega (arith, says .fewer, now .its-interval, now .aged);
       quiet = λ l. tick-events t (now .stands) ∙ says .quiet (omega (arith, now .its-interval, now .aged));
@@ -183,9 +183,9 @@ every-interval s cs n ok e unsent-so-far =
 
 -- ---- which no call changes
 
-interval-stays : (s : Session) (c : Call) → step s c .next .interval ≡ s .interval
-interval-stays s c = by-turns (λ (k : ℕ) (r : Answered). r .next .interval ≡ s .interval) s c (λ k. refl) (λ m o. refl) (λ e. refl)
+site-stays : (s : Session) (c : Call) → step s c .next .site ≡ s .site
+site-stays s c = by-turns (λ (k : ℕ) (r : Answered). r .next .site ≡ s .site) s c (λ k. refl) (λ m o. refl) (λ e. refl)
 
-pub interval-kept : IntervalKept
-interval-kept s [] = refl
-interval-kept s (c ∷ cs) = interval-kept (step s c .next) cs ∙ interval-stays s c
+pub site-kept : SiteKept
+site-kept s [] = refl
+site-kept s (c ∷ cs) = site-kept (step s c .next) cs ∙ site-stays s c

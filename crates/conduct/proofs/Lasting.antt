@@ -50,7 +50,7 @@ module _ (number : ℕ) (below : number < 5) (Holds : ℕ → State → Type 0)
     one-more s c a h =
         by-turns (λ (k : ℕ) (r : Answered). stateNumber (r .next .state) ≡ number → Holds (a + k) (r .next .state)) s c
         (λ k n. still) (λ m o n. rw (unmoved m o (rw own below) (n ∙ sym own)) still)
-        (λ e n. ticks-on (s .interval) _ a (s .state) h n)
+        (λ e n. ticks-on (s .site .interval) _ a (s .state) h n)
       where
         own : stateNumber (s .state) ≡ number
         own = numbered a (s .state) h

@@ -216,7 +216,7 @@ connected-usual (Up waiting age) h = absurd (true-false h refl)
 connected-usual Stopped h = absurd (true-false h refl)
 
 pub move-usual : (s : Session) (c : Call) → refusalOf s c ≡ 0 → Usual (s .state) (moveOf s c)
-move-usual s calls.Tick a = tick-usual (s .interval) (nextNumber s) (s .state)
+move-usual s calls.Tick a = tick-usual (s .site .interval) (nextNumber s) (s .state)
 move-usual s calls.Connected a = connected-usual (s .state) (accepted-fits s calls.Connected a)
 move-usual s calls.Lost a = departs (Waiting 300) partings.Nothing refl (λ h. omega arith)
 move-usual s calls.Stop a = stop-usual (s .state)

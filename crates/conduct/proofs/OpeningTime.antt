@@ -43,7 +43,7 @@ opening-lasts s cs ok e st =
     let now : t .state ≡ Opening a =
     lasting 3 (omega arith) (λ (k : ℕ) (state : State). state ≡ Opening k) (λ k state f. rw f) opening-on cs s ok e st
     in
-    let sound-now : soundState (t .interval) (Opening a) ≡ true = rw now at (good {s = t} (reached-is-sound s cs ok) .state-is) in
+    let sound-now : soundState (t .site .interval) (Opening a) ≡ true = rw now at (good {s = t} (reached-is-sound s cs ok) .state-is) in
     record {
       shorter = ltb-true a 20 sound-now;
       quiet = opening-quiet t a now;

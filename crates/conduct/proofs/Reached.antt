@@ -113,7 +113,7 @@ reached-is-sound s [] h = h
 reached-is-sound s (c ∷ cs) h = reached-is-sound (step s c .next) cs (sound-step s c h)
 
 pub made-is-sound : MadeIsSound
-made-is-sound interval = cond-cases (λ (m : Made). sound (m .session) ≡ true) (allowedInterval interval) (λ e. both e refl) (λ e. refl)
+made-is-sound site = cond-cases (λ (m : Made). sound (m .session) ≡ true) (allowedInterval (site .interval)) (λ e. both e refl) (λ e. refl)
 
 -- ---- what that means of the numbers and of the room
 

@@ -151,4 +151,4 @@ sent-is-open s c a b e =
     by-turns (λ (k : ℕ) (r : Answered). r .events ≡ a ++ e ∷ b → e .code ≡ 3 → Open (r .next .state) (e .number)) s c
     (λ k h t. absurd (omega (arith, ap length h, length-append a (e ∷ b))))
     (λ m o. move-opens s m (⊎-elim (λ q. none q) (λ w. answer (w .1)) (onward-sends m o)) a b e)
-    (λ d. move-opens s _ (tick-sends (s .interval) (nextNumber s) (s .state)) a b e)
+    (λ d. move-opens s _ (tick-sends (s .site .interval) (nextNumber s) (s .state)) a b e)

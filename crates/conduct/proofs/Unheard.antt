@@ -80,7 +80,7 @@ module _ (n a : ℕ) where
       (λ (k : ℕ) (r : Answered). stateNumber (r .next .state) ≡ 5 → Quiet (cond (eqb (r .refusal) 0) (callBearing n c) [])
       → r .next .state ≡ Up (awaited.Ok n) (a + k))
       s c (λ k u b. rw (plus-none a) h) (λ m o u b. rw (plus-none a) (unmoved m o h u b))
-      (λ e u b. ticks-on (s .interval) (nextNumber s) (s .state) h u)
+      (λ e u b. ticks-on (s .site .interval) (nextNumber s) (s .state) h u)
 
 -- ---- over any calls
 
@@ -117,7 +117,7 @@ heartbeat-unheard s cs n ok e st un =
     let a = ticks (history s cs) in
     let t : Session = sessionAfter s cs in
     let now : t .state ≡ Up (awaited.Ok n) a = still-open n cs s ok e (st, un) in
-    let sound-now : soundState (t .interval) (Up (awaited.Ok n) a) ≡ true = rw now at (good {s = t} (reached-is-sound s cs ok) .state-is) in
+    let sound-now : soundState (t .site .interval) (Up (awaited.Ok n) a) ≡ true = rw now at (good {s = t} (reached-is-sound s cs ok) .state-is) in
     record { shorter = ltb-true a 20 sound-now; quiet = unheard-quiet t n a now; last = unheard-last t n a now }
 
 -- what a tick says is of pushes, or the next SessionOk
@@ -135,8 +135,8 @@ sending s =
     (all-append ofPushOrNext (flat (tells sweeps.Older) (s .pushes)) _ ∙ both (told-pass ofPushOrNext (λ n d. refl) sweeps.Older (s .pushes)) refl, refl)
 
 pub heard-stays-up : HeardStaysUp
-heard-stays-up s age e = rw (tick-taken s (Up awaited.Nothing age) e refl) (go (ltb (age + 1) (s .interval)) refl)
+heard-stays-up s age e = rw (tick-taken s (Up awaited.Nothing age) e refl) (go (ltb (age + 1) (s .site .interval)) refl)
   where
-    go : (b : Bool) → ltb (age + 1) (s .interval) ≡ b → Stays s (tick (s .interval) (nextNumber s) (Up awaited.Nothing age))
+    go : (b : Bool) → ltb (age + 1) (s .site .interval) ≡ b → Stays s (tick (s .site .interval) (nextNumber s) (Up awaited.Nothing age))
     go true h = rw h (resting s (age + 1))
-    go false h = rw (heartbeat-due (s .interval) (nextNumber s) age h) (sending s)
+    go false h = rw (heartbeat-due (s .site .interval) (nextNumber s) age h) (sending s)

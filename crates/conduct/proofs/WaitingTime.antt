@@ -51,7 +51,7 @@ waiting-lasts s cs left ok e st =
     lasting 1 (omega arith) (Left left) (λ k state f. rw (f .1)) (waiting-on left) cs s ok (left, e, omega arith) st
     in
     let more = now .0 in
-    let sound-now : soundState (t .interval) (Waiting more) ≡ true = rw (now .1) at (good {s = t} (reached-is-sound s cs ok) .state-is) in
+    let sound-now : soundState (t .site .interval) (Waiting more) ≡ true = rw (now .1) at (good {s = t} (reached-is-sound s cs ok) .state-is) in
     let some-left = leb-true 1 more (both-of (leb 1 more) _ sound-now .0) in
     record {
       shorter = omega (arith, now .2, some-left);

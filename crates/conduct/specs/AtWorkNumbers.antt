@@ -1,7 +1,7 @@
 -- Promise: the rules at work: the numbers of messages. (proofs/NumbersAtWork)
 -- Assumes nothing.
 use mathlib.Core.List.{[], _∷_, _++_}
-use Rattle.conduct.specs.Session.{fresh}
+use Rattle.conduct.specs.Session.{usual, fresh}
 use Rattle.conduct.specs.Scripts.{ticking, connected, lost, stop, push, advise, answerOk, ok, advisory}
 use Rattle.conduct.specs.Scripts.{AllAsDue, example, inOpening, inUp, toOpening}
 use Rattle.conduct.specs.Scripts.{toConfirming, toUp, withLast, goingOn, full, fullSays}
@@ -21,7 +21,7 @@ NumbersAtWork =
     (event 22 18 2 0 ∷ event 22 19 3 0 ∷ event 22 7 0 0 ∷ event 322 1 0 0 ∷ event 323 2 4 0 ∷ []) 3 0
     ∷ inUp 100 (push 7 ∷ ticking 20 ∷ advise 8 ∷ []) (event 5 4 3 7 ∷ event 25 5 3 7 ∷ event 26 6 4 8 ∷ []) 5 2
     ∷  -- after 4,294,967,295 comes 0
-    example (withLast 4294967295 (fresh 21)) (ticking 1 ∷ connected ∷ []) (event 1 1 0 0 ∷ event 2 2 0 0 ∷ []) 3 0
+    example (withLast 4294967295 (fresh (usual 21))) (ticking 1 ∷ connected ∷ []) (event 1 1 0 0 ∷ event 2 2 0 0 ∷ []) 3 0
     ∷ goingOn 21 toOpening 4294967294 (ticking 20 ∷ []) (event 20 18 4294967295 0 ∷ event 20 19 0 0 ∷ event 20 7 0 0 ∷ []) 1 0
     ∷ goingOn 21 toOpening 4294967295 (answerOk ∷ ok 0 ∷ push 7 ∷ []) (event 1 3 0 0 ∷ event 2 8 0 0 ∷ event 3 4 1 7 ∷ []) 5 1
     ∷  -- and 0 is a number like any other
@@ -55,7 +55,7 @@ NumbersAtWork =
     (event 1 19 5 0 ∷ event 1 7 0 0 ∷ event 1 12 4 7 ∷ event 301 1 0 0 ∷ event 302 2 6 0 ∷ []) 3 0
     ∷  -- all 33 that can be held, and two across the end
     goingOn 21 (toUp ++ ticking 1 ∷ full ++ ticking 20 ∷ []) 2 (stop ∷ []) (event 1 19 36 0 ∷ event 1 7 0 0 ∷ fullSays 1 12) 6 0
-    ∷ example (withLast 4294967292 (fresh 100))
+    ∷ example (withLast 4294967292 (fresh (usual 100)))
     (ticking 1 ∷ connected ∷ answerOk ∷ ok 4294967294 ∷ push 7 ∷ push 8 ∷ advise 9 ∷ [])
     (event 1 1 0 0
     ∷ event 2 2 4294967293 0

@@ -7,7 +7,7 @@ use Prim.Native.Nat.{ℕ}
 use lib.ListN.{drop}
 use Rattle.message.specs.declared.Kind.the-variants as kinds
 use Rattle.conduct.specs.Lists.{some, all}
-use Rattle.conduct.specs.Session.{Session, fresh, Made, make}
+use Rattle.conduct.specs.Session.{Session, usual, fresh, Made, make}
 use Rattle.conduct.specs.Sound.{sound}
 use Rattle.conduct.specs.Scripts.{ticking, connected, lost, stop, push, advise, unreadable, bare, ok, advisory}
 use Rattle.conduct.specs.Scripts.{AllAsDue, example, inConnecting, inOpening, inConfirming, inUp, toUp, goingOn, full, fullNumbers}
@@ -22,14 +22,14 @@ use Rattle.conduct.specs.declared.Pushed.the-variants.{Response, Advisor
 -- ---- making
 
 abbrev pub made : ℕ → Made
-made interval = record { refusal = 0; session = record { interval = interval; state = Waiting 1; pushes = []; last = 0 } }
+made interval = record { refusal = 0; session = record { site = record { interval = interval }; state = Waiting 1; pushes = []; last = 0 } }
 
 abbrev pub refusedMaking : Made
-refusedMaking = record { refusal = 4; session = record { interval = 21; state = Stopped; pushes = []; last = 0 } }
+refusedMaking = record { refusal = 4; session = record { site = record { interval = 21 }; state = Stopped; pushes = []; last = 0 } }
 
 abbrev pub MakingAtWork : Type 0
 MakingAtWork =
-    map make (0 ∷ 20 ∷ 21 ∷ 22 ∷ 6000 ∷ 6001 ∷ 4294967295 ∷ [])
+    map (λ (interval : ℕ). make (usual interval)) (0 ∷ 20 ∷ 21 ∷ 22 ∷ 6000 ∷ 6001 ∷ 4294967295 ∷ [])
     ≡ refusedMaking ∷ refusedMaking ∷ made 21 ∷ made 22 ∷ made 6000 ∷ refusedMaking ∷ refusedMaking ∷ []
 
 -- ---- refused calls
@@ -38,7 +38,7 @@ abbrev pub RefusalsAtWork : Type 0
 RefusalsAtWork =
     AllAsDue
     ( -- 6, in each state all that does not fit
-    example (fresh 21) (connected ∷ lost ∷ push 7 ∷ advise 7 ∷ bare kinds.SessionOpenResponse ∷ unreadable 9 ∷ ticking 1 ∷ [])
+    example (fresh (usual 21)) (connected ∷ lost ∷ push 7 ∷ advise 7 ∷ bare kinds.SessionOpenResponse ∷ unreadable 9 ∷ ticking 1 ∷ [])
     (refused 1 6 ∷ refused 2 6 ∷ refused 3 6 ∷ refused 4 6 ∷ refused 5 6 ∷ refused 6 6 ∷ event 7 1 0 0 ∷ []) 2 0
     ∷ inConnecting 21 (push 7 ∷ advise 7 ∷ bare kinds.SessionOpenResponse ∷ unreadable 9 ∷ ticking 1 ∷ connected ∷ [])
     (refused 2 6 ∷ refused 3 6 ∷ refused 4 6 ∷ refused 5 6 ∷ event 7 2 1 0 ∷ []) 3 0
@@ -78,7 +78,7 @@ RefusalsAtWork =
     ∷ refused 15 6
     ∷ []) 5 0
     ∷  -- 5, whatever the call
-    example (fresh 21) (stop ∷ ticking 1 ∷ connected ∷ lost ∷ stop ∷ push 7 ∷ advise 7 ∷ bare kinds.Ok ∷ unreadable 9 ∷ unreadable 15 ∷ [])
+    example (fresh (usual 21)) (stop ∷ ticking 1 ∷ connected ∷ lost ∷ stop ∷ push 7 ∷ advise 7 ∷ bare kinds.Ok ∷ unreadable 9 ∷ unreadable 15 ∷ [])
     (refused 2 5
     ∷ refused 3 5
     ∷ refused 4 5
@@ -121,7 +121,7 @@ RefusalsAtWork =
 -- ---- the test behind 27
 
 abbrev pub sessionWith : ℕ → State → List Push → Session
-sessionWith interval state pushes = record { interval = interval; state = state; pushes = pushes; last = 4294967295 }
+sessionWith interval state pushes = record { site = usual interval; state = state; pushes = pushes; last = 4294967295 }
 
 abbrev pub aPush : Pushed → ℕ → ℕ → ℕ → Push
 aPush what number sent age = record { what = what; number = number; handle = 4294967295; sent = sent; age = age }

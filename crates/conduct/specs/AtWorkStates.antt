@@ -4,7 +4,7 @@ use mathlib.Core.Path.{_≡_}
 use mathlib.Core.List.{[], _∷_, _++_, map}
 use Prim.Native.Nat.{ℕ}
 use Rattle.message.specs.declared.Kind.the-variants as kinds
-use Rattle.conduct.specs.Session.{Session, fresh}
+use Rattle.conduct.specs.Session.{Session, usual, fresh}
 use Rattle.conduct.specs.History.{sessionAfter}
 use Rattle.conduct.specs.declared.State.the-variants.{Stopped}
 use Rattle.conduct.specs.Scripts.{ticking, connected, lost, stop, push}
@@ -18,8 +18,8 @@ abbrev pub WaitingAtWork : Type 0
 WaitingAtWork =
     AllAsDue
     ( -- fresh, one tick is left
-    example (fresh 21) [] [] 1 0
-    ∷ example (fresh 21) (ticking 1 ∷ []) (event 1 1 0 0 ∷ []) 2 0
+    example (fresh (usual 21)) [] [] 1 0
+    ∷ example (fresh (usual 21)) (ticking 1 ∷ []) (event 1 1 0 0 ∷ []) 2 0
     ∷  -- ticks in Connecting do nothing
     inConnecting 21 (ticking 400 ∷ []) [] 2 0
     ∷ inConnecting 21 (connected ∷ []) (event 2 2 1 0 ∷ []) 3 0
@@ -163,7 +163,7 @@ abbrev pub EndingsAtWork : Type 0
 EndingsAtWork =
     AllAsDue
     ( -- the link is lost in each state that it fits
-    example (fresh 21) (lost ∷ []) (refused 1 6 ∷ []) 1 0
+    example (fresh (usual 21)) (lost ∷ []) (refused 1 6 ∷ []) 1 0
     ∷ inConnecting 21 (lost ∷ lost ∷ ticking 300 ∷ []) (refused 3 6 ∷ event 303 1 0 0 ∷ []) 2 0
     ∷ inOpening 21 (lost ∷ lost ∷ ticking 300 ∷ []) (refused 4 6 ∷ event 304 1 0 0 ∷ []) 2 0
     ∷ inConfirming 21 (lost ∷ lost ∷ ticking 300 ∷ []) (refused 5 6 ∷ event 305 1 0 0 ∷ []) 2 0
@@ -182,7 +182,7 @@ EndingsAtWork =
     ∷ inUp 21 (ticking 21 ∷ push 7 ∷ lost ∷ []) (event 25 3 3 0 ∷ event 26 4 4 7 ∷ event 27 12 4 7 ∷ []) 1 0
     ∷ goingOn 100 (toUp ++ full) 34 (lost ∷ []) (fullSays 1 12) 1 0
     ∷  -- the session is stopped in each state
-    example (fresh 21) (stop ∷ stop ∷ []) (refused 2 5 ∷ []) 6 0
+    example (fresh (usual 21)) (stop ∷ stop ∷ []) (refused 2 5 ∷ []) 6 0
     ∷ inConnecting 21 (stop ∷ stop ∷ []) (refused 3 5 ∷ []) 6 0
     ∷ inOpening 21 (stop ∷ stop ∷ []) (event 3 19 2 0 ∷ event 3 7 0 0 ∷ refused 4 5 ∷ []) 6 0
     ∷ inConfirming 21 (stop ∷ stop ∷ []) (event 4 19 3 0 ∷ event 4 7 0 0 ∷ refused 5 5 ∷ []) 6 0
@@ -219,10 +219,10 @@ EndingsAtWork =
 
 -- what is left of a session that was stopped: its interval, and the last number taken
 abbrev pub stoppedWith : ℕ → Session
-stoppedWith last = record { interval = 30; state = Stopped; pushes = []; last = last }
+stoppedWith last = record { site = usual 30; state = Stopped; pushes = []; last = last }
 
 abbrev pub StoppedAtWork : Type 0
 StoppedAtWork =
-    map (λ (script : Script). sessionAfter (fresh 30) (callsOf script))
+    map (λ (script : Script). sessionAfter (fresh (usual 30)) (callsOf script))
     ((stop ∷ []) ∷ (ticking 1 ∷ stop ∷ []) ∷ (toOpening ++ stop ∷ []) ∷ (toUp ++ push 7 ∷ stop ∷ []) ∷ (toUp ++ lost ∷ ticking 7 ∷ stop ∷ ticking 1 ∷ []) ∷ [])
     ≡ stoppedWith 0 ∷ stoppedWith 0 ∷ stoppedWith 2 ∷ stoppedWith 4 ∷ stoppedWith 2 ∷ []

@@ -3,17 +3,18 @@
 use mathlib.Core.Path.{_≡_}
 use mathlib.Core.Bool.{true}
 use mathlib.Core.List.{List, _++_, map}
-use Prim.Native.Nat.{ℕ, _≤_}
+use Prim.Native.Nat.{_≤_}
 use lib.ListN.{length}
 use Rattle.conduct.specs.Lists.{distinct}
 use Rattle.conduct.specs.Session.{Session, make, sessionOkNumbers}
 use Rattle.conduct.specs.Sound.{sound}
 use Rattle.conduct.specs.History.{sessionAfter}
+use Rattle.conduct.specs.declared.Site.{Site}
 use Rattle.conduct.specs.declared.Push.{Push}
 use Rattle.conduct.specs.declared.Call.{Call}
 
 abbrev pub MadeIsSound : Type 0
-MadeIsSound = (interval : ℕ) → sound (make interval .session) ≡ true
+MadeIsSound = (site : Site) → sound (make site .session) ≡ true
 
 abbrev pub ReachedIsSound : Type 0
 ReachedIsSound = (s : Session) (cs : List Call) → sound s ≡ true → sound (sessionAfter s cs) ≡ true

@@ -163,7 +163,7 @@ acted s m actions.Request = goes (s .state) (note codes.requestArrived)
 -- ---- any call
 
 abbrev pub moveOf : Session → Call → Move
-moveOf s calls.Tick = tick (s .interval) (nextNumber s) (s .state)
+moveOf s calls.Tick = tick (s .site .interval) (nextNumber s) (s .state)
 moveOf s calls.Connected = connected
 moveOf s calls.Lost = lost
 moveOf s calls.Stop = stop (s .state)

@@ -19,7 +19,7 @@ use Rattle.message.specs.declared.NumberValue.{NumberValue}
 use Rattle.message.specs.declared.StatusValue.{StatusValue}
 use Rattle.message.specs.declared.TypeValue.{TypeValue}
 use Rattle.conduct.specs.Lists.{flat}
-use Rattle.conduct.specs.Session.{Session, fresh, stateNumber}
+use Rattle.conduct.specs.Session.{Session, usual, fresh, stateNumber}
 use Rattle.conduct.specs.History.{Entry, history, sessionAfter}
 use Rattle.conduct.specs.declared.Event.{Event}
 use Rattle.conduct.specs.declared.Call.{Call}
@@ -155,7 +155,7 @@ example start script lines state pushes =
 -- ---- examples that lead a fresh session to a state first: call 1 to Connecting, 2 to Opening, 3 to Confirming, 4 to Up
 
 abbrev pub inConnecting : ℕ → Script → List Line → ℕ → ℕ → Example
-inConnecting interval script lines = example (fresh interval) (ticking 1 ∷ script) (event 1 1 0 0 ∷ lines)
+inConnecting interval script lines = example (fresh (usual interval)) (ticking 1 ∷ script) (event 1 1 0 0 ∷ lines)
 
 abbrev pub inOpening : ℕ → Script → List Line → ℕ → ℕ → Example
 inOpening interval script lines = inConnecting interval (connected ∷ script) (event 2 2 1 0 ∷ lines)
@@ -178,10 +178,10 @@ abbrev pub toUp : Script
 toUp = toConfirming ++ ok 2 ∷ []
 
 abbrev pub withLast : ℕ → Session → Session
-withLast n s = record { interval = s .interval; state = s .state; pushes = s .pushes; last = n }
+withLast n s = record { site = s .site; state = s .state; pushes = s .pushes; last = n }
 
 abbrev pub goingOn : ℕ → Script → ℕ → Script → List Line → ℕ → ℕ → Example
-goingOn interval before last = example (withLast last (sessionAfter (fresh interval) (callsOf before)))
+goingOn interval before last = example (withLast last (sessionAfter (fresh (usual interval)) (callsOf before)))
 
 -- ---- as many pushes as can be open, and their numbers where they are the first after Up was reached
 

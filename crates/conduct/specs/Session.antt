@@ -8,22 +8,27 @@ use Rattle.conduct.specs.declared.Awaited.{Awaited}
 use Rattle.conduct.specs.declared.Awaited.the-variants as awaited
 use Rattle.conduct.specs.declared.State.{State}
 use Rattle.conduct.specs.declared.State.the-variants.{Waiting, Connecting, Opening, Confirming, Up, Stopped}
+use Rattle.conduct.specs.declared.Site.{Site}
 use Rattle.conduct.specs.declared.Push.{Push}
 use Rattle.conduct.specs.declared.Call.{Call}
 use Rattle.conduct.specs.declared.Call.the-variants as calls
 
 pub record Session : Type 0 where
-  -- the ticks from one SessionOk to the next
-  pub interval : ℕ
+  -- what it was made with
+  pub site : Site
   pub state : State
   -- the open ones, in order of acceptance
   pub pushes : List Push
   -- the last number taken
   pub last : ℕ
 
+-- a site with so many ticks from one SessionOk to the next
+abbrev pub usual : ℕ → Site
+usual interval = record { interval = interval }
+
 -- Waiting, one tick left, and no number taken: so the first is 1
-abbrev pub fresh : ℕ → Session
-fresh interval = record { interval = interval; state = Waiting 1; pushes = []; last = 0 }
+abbrev pub fresh : Site → Session
+fresh site = record { site = site; state = Waiting 1; pushes = []; last = 0 }
 
 -- ---- making one
 
@@ -35,11 +40,11 @@ pub record Made : Type 0 where
   pub refusal : ℕ
   pub session : Session
 
-abbrev pub make : ℕ → Made
-make interval =
-    cond (allowedInterval interval)
-    (record { refusal = 0; session = fresh interval })
-    (record { refusal = 4; session = record { interval = 21; state = Stopped; pushes = []; last = 0 } })
+abbrev pub make : Site → Made
+make site =
+    cond (allowedInterval (site .interval))
+    (record { refusal = 0; session = fresh site })
+    (record { refusal = 4; session = record { site = usual 21; state = Stopped; pushes = []; last = 0 } })
 
 -- ---- the states, by the paper's order
 

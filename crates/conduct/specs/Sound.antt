@@ -33,7 +33,7 @@ soundPush p = leb 1 (p .sent) && (leb (p .sent) (mostSendings (p .what)) && ltb 
 -- at most 32 pushes, none outside Up, and no number twice
 abbrev pub sound : Session → Bool
 sound s =
-    allowedInterval (s .interval)
-    && (soundState (s .interval) (s .state)
+    allowedInterval (s .site .interval)
+    && (soundState (s .site .interval) (s .state)
     && (leb (length (s .pushes)) 32
     && ((isUp (s .state) || eqb (length (s .pushes)) 0) && (all soundPush (s .pushes) && distinct (held s)))))

@@ -51,7 +51,7 @@ eventsBy s m =
 abbrev pub movedBy : Session → Move → Session
 movedBy s m =
     record {
-      interval = s .interval;
+      site = s .site;
       state = m .to;
       pushes = flat (keeps (m .sweep)) (s .pushes) ++ opens (nextFree (held s) (lastAfterParting s m)) (m .remark);
       last = lastAfterAll (held s) (lastAfterParting s m) (remarkNotes (m .remark));

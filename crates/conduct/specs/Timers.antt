@@ -119,9 +119,9 @@ SentIsOpen =
 -- The SessionOk n was just sent; since then the session is confirming or up and sent no other. Then fewer ticks than the interval were accepted, and a
 -- tick says 3 exactly if it is the last of it.
 pub record Due (s : Session) (cs : List Call) : Type 0 where
-  pub shorter : ticks (history s cs) < s .interval
-  pub quiet : suc (ticks (history s cs)) < s .interval → saysSessionOk (tickAfter s cs .events) ≡ false
-  pub last : suc (ticks (history s cs)) ≡ s .interval → saysSessionOk (tickAfter s cs .events) ≡ true
+  pub shorter : ticks (history s cs) < s .site .interval
+  pub quiet : suc (ticks (history s cs)) < s .site .interval → saysSessionOk (tickAfter s cs .events) ≡ false
+  pub last : suc (ticks (history s cs)) ≡ s .site .interval → saysSessionOk (tickAfter s cs .events) ≡ true
 
 abbrev pub EveryInterval : Type 0
 EveryInterval =
@@ -129,9 +129,9 @@ EveryInterval =
     → all (λ (x : Entry). isConfirmingOrUp (x .state) && not (saysSessionOk (x .events))) (history s cs) ≡ true
     → Due s cs
 
--- the interval is that of the making
-abbrev pub IntervalKept : Type 0
-IntervalKept = (s : Session) (cs : List Call) → sessionAfter s cs .interval ≡ s .interval
+-- what the session was made with is kept, so the interval is that of the making
+abbrev pub SiteKept : Type 0
+SiteKept = (s : Session) (cs : List Call) → sessionAfter s cs .site ≡ s .site
 
 -- and but for a tick only the answer to the SessionOpenRequest sends one
 abbrev pub SentInTicks : Type 0

@@ -54,6 +54,12 @@ pub struct Push {
     pub age: u32,
 }
 
+// What a session is made with.
+pub struct Site {
+    // The ticks from one SessionOk to the next.
+    pub interval: u32,
+}
+
 pub struct Event {
     pub code: u32,
     pub number: u32,

@@ -18,7 +18,7 @@ use Rattle.message.specs.declared.Number.{Number}
 use Rattle.message.specs.declared.Number.the-variants.{Nothing, Names}
 use Rattle.message.specs.declared.Message.{Message}
 use Rattle.conduct.specs.Lists.{flat, those}
-use Rattle.conduct.specs.Session.{Session, fresh}
+use Rattle.conduct.specs.Session.{Session, usual, fresh}
 use Rattle.conduct.specs.History.{Entry, history, sessionAfter, ticks, about}
 use Rattle.conduct.specs.Scripts.{Script, callsOf, toUp, push, advise, ticking, unreadableMessage}
 use Rattle.conduct.specs.declared.Event.{Event}
@@ -74,7 +74,7 @@ toldOf n passed (x ∷ xs) =
 
 -- a fresh session brought up; what is pushed then gets number 3
 abbrev pub up : Session
-up = sessionAfter (fresh 6000) (callsOf toUp)
+up = sessionAfter (fresh (usual 6000)) (callsOf toUp)
 
 -- ---- the table
 

@@ -9,6 +9,7 @@ use Rattle.message.specs.Limits.{linkLimits}
 use Rattle.message.specs.Messages.{messageOf}
 use Rattle.conduct.specs.declared.Call.{Call}
 use Rattle.conduct.specs.declared.Call.the-variants as calls
+use Rattle.conduct.specs.Session.{usual}
 use Rattle.session.specs.declared.Told.{Told}
 use Rattle.session.specs.Record.{madeOf, withLast}
 use Rattle.session.specs.Answers.{callOf, told}
@@ -27,7 +28,7 @@ following n = cond (ltb n 18446744073709551615) (n + 1) n
 
 -- settings first; the interval is 100 where none is set
 unfoldable pub freshRun : Run
-freshRun = record { phase = Settling; interval = 100; session = madeOf 100 .session; call = 1; line = 1 }
+freshRun = record { phase = Settling; site = usual 100; session = madeOf (usual 100) .session; call = 1; line = 1 }
 
 abbrev pub phaseBy : ℕ → Phase
 phaseBy refusal = cond (eqb refusal 0) Running Refused
@@ -35,9 +36,9 @@ phaseBy refusal = cond (eqb refusal 0) Running Refused
 unfoldable pub madeRun : Run → Run
 madeRun run =
     record {
-      phase = phaseBy (madeOf (run .interval) .refusal);
-      interval = run .interval;
-      session = madeOf (run .interval) .session;
+      phase = phaseBy (madeOf (run .site) .refusal);
+      site = run .site;
+      session = madeOf (run .site) .session;
       call = run .call;
       line = run .line;
     }
@@ -61,17 +62,17 @@ unfoldable pub readyFor : Run → Line → Run
 readyFor run line = readyIn (run .phase) run line
 
 unfoldable pub afterCall : Run → Told → Run
-afterCall run t = record { phase = run .phase; interval = run .interval; session = t .next; call = following (run .call); line = run .line }
+afterCall run t = record { phase = run .phase; site = run .site; session = t .next; call = following (run .call); line = run .line }
 
 unfoldable pub nextLine : Run → Run
-nextLine run = record { phase = run .phase; interval = run .interval; session = run .session; call = run .call; line = following (run .line) }
+nextLine run = record { phase = run .phase; site = run .site; session = run .session; call = run .call; line = following (run .line) }
 
 unfoldable pub settled : Run → ℕ → Run
-settled run interval = record { phase = run .phase; interval = interval; session = run .session; call = run .call; line = run .line }
+settled run interval = record { phase = run .phase; site = usual interval; session = run .session; call = run .call; line = run .line }
 
 unfoldable pub renumbered : Run → ℕ → Run
 renumbered run last =
-    record { phase = run .phase; interval = run .interval; session = withLast last (run .session); call = run .call; line = run .line }
+    record { phase = run .phase; site = run .site; session = withLast last (run .session); call = run .call; line = run .line }
 
 -- ---- a line: the run that follows it, and what it prints
 

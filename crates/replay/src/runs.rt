@@ -1,5 +1,6 @@
 // A run of a script: what is kept from one line to the next.
 use crate::script::Line;
+use conduct::Site;
 use session::Session;
 use session::Told;
 ghost use mathlib.Core.Path.{_≡_};
@@ -14,7 +15,7 @@ pub(crate) enum Phase {
 
 pub(crate) struct Run {
     pub(crate) phase: Phase,
-    pub(crate) interval: u32,
+    pub(crate) site: Site,
     pub(crate) session: Session,
     // The numbers of the next call and of the next line.
     pub(crate) call: u64,
@@ -34,11 +35,12 @@ fn next(number: u64) -> u64
 pub(crate) fn fresh() -> Run
     ensures { λ r. ⌜ r ≡ freshRun ⌝ }
 {
-    let made = session::make(100);
+    let site = Site { interval: 100 };
+    let made = session::make(site);
     let session = made.session;
     Run {
         phase: Phase::Settling,
-        interval: 100,
+        site,
         session,
         call: 1,
         line: 1,
@@ -48,7 +50,8 @@ pub(crate) fn fresh() -> Run
 fn made(run: Run) -> Run
     ensures { λ r. ⌜ r ≡ madeRun run ⌝ }
 {
-    let made = session::make(run.interval);
+    let site = run.site;
+    let made = session::make(site);
     let session = made.session;
     let mut phase = Phase::Running;
     if made.refusal != 0 {
@@ -56,7 +59,7 @@ fn made(run: Run) -> Run
     }
     Run {
         phase,
-        interval: run.interval,
+        site,
         session,
         call: run.call,
         line: run.line,
@@ -93,10 +96,11 @@ pub(crate) fn after_call(run: Run, told: Told) -> Run
     ensures { λ r. ⌜ r ≡ Runs·afterCall run told ⌝ }
 {
     let phase = run.phase;
+    let site = run.site;
     let session = told.next;
     Run {
         phase,
-        interval: run.interval,
+        site,
         session,
         call: next(run.call),
         line: run.line,
@@ -107,10 +111,11 @@ pub(crate) fn next_line(run: Run) -> Run
     ensures { λ r. ⌜ r ≡ nextLine run ⌝ }
 {
     let phase = run.phase;
+    let site = run.site;
     let session = run.session;
     Run {
         phase,
-        interval: run.interval,
+        site,
         session,
         call: run.call,
         line: next(run.line),
@@ -124,7 +129,7 @@ pub(crate) fn settled(run: Run, interval: u32) -> Run
     let session = run.session;
     Run {
         phase,
-        interval,
+        site: Site { interval },
         session,
         call: run.call,
         line: run.line,
@@ -135,10 +140,11 @@ pub(crate) fn renumbered(run: Run, last: u32) -> Run
     ensures { λ r. ⌜ r ≡ Runs·renumbered run last ⌝ }
 {
     let phase = run.phase;
+    let site = run.site;
     let session = run.session;
     Run {
         phase,
-        interval: run.interval,
+        site,
         session: session.with_last(last),
         call: run.call,
         line: run.line,

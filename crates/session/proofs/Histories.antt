@@ -48,7 +48,7 @@ record-consistent s h =
     both (le-leb (length (s .pushes)) 32 (good {s = s} h .room)) (both behind (ap sound (same-session s) ∙ h))
 
 pub made-is-consistent : MadeIsConsistent
-made-is-consistent interval = record-consistent (make interval .session) (made-is-sound interval)
+made-is-consistent site = record-consistent (make site .session) (made-is-sound site)
 
 -- ---- one call
 
@@ -163,11 +163,11 @@ answers-are-history d (a ∷ rest) passes = go (roomy a) refl (λ e h. answers-a
 -- ---- making one
 
 pub made-allowed : MadeAllowed
-made-allowed interval low high = rw (le-leb 21 interval low, le-leb interval 6000 high) (refl, refl)
+made-allowed site low high = rw (le-leb 21 (site .interval) low, le-leb (site .interval) 6000 high) (refl, refl)
 
 pub made-refused : MadeRefused
-made-refused interval outside =
-    let not-allowed : allowedInterval interval ≡ false =
-    ⊎-elim (λ l. rw (lt-leb 21 interval l)) (λ l. and-last (leb 21 interval) (lt-leb interval 6000 l)) outside
+made-refused site outside =
+    let not-allowed : allowedInterval (site .interval) ≡ false =
+    ⊎-elim (λ l. rw (lt-leb 21 (site .interval) l)) (λ l. and-last (leb 21 (site .interval)) (lt-leb (site .interval) 6000 l)) outside
     in
     rw not-allowed (refl, refl, refl, rows-of [], refl)

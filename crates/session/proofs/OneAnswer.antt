@@ -8,6 +8,7 @@ use Rattle.message.specs.declared.Message.{Message}
 use Rattle.conduct.specs.declared.Call.{Call}
 use Rattle.conduct.specs.declared.Call.the-variants as variants
 use Rattle.conduct.specs.declared.Event.{Event}
+use Rattle.conduct.specs.declared.Site.{Site}
 use Rattle.conduct.specs.declared.Pushed.the-variants as pushed
 use Rattle.session.specs.Record.{madeOf, withLast}
 use Rattle.session.specs.Answers.{told, SaysAndWrites, callOfBytes}
@@ -16,8 +17,8 @@ use Rattle.session.specs.declared.Said.{Said}
 use Rattle.session.specs.declared.Session.{Session}
 use Rattle.session.specs.declared.Told.{Told}
 
-pub make-once : (interval : ℕ) {r r′ : Made} → r ≡ madeOf interval → r′ ≡ madeOf interval → r ≡ r′
-make-once interval = one-answer
+pub make-once : (site : Site) {r r′ : Made} → r ≡ madeOf site → r′ ≡ madeOf site → r ≡ r′
+make-once site = one-answer
 
 module _ (places : ℕ) (self : Session) {r r′ : Told} where
   pub told-once : (call : Call) → r ≡ told places self call → r′ ≡ told places self call → r ≡ r′

@@ -51,7 +51,7 @@ module _ (s : Record) (m : Move) (hs : List ℕ) where
   atHeld =
       performedOf
       (record {
-        interval = s .interval;
+        site = s .site;
         state = m .to;
         pushes = kept ++ opens (nextFree hs firstLast) (m .remark);
         last = lastAfterAll hs firstLast (remarkNotes (m .remark));
@@ -62,7 +62,7 @@ module _ (s : Record) (m : Move) (hs : List ℕ) where
   abbrev closing : Remarked → Performed
   closing all =
       record {
-        next = record { interval = s .interval; state = m .to; pushes = all .table; last = all .written .last };
+        next = record { site = s .site; state = m .to; pushes = all .table; last = all .written .last };
         events = all .written .events;
       }
 

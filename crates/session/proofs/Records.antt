@@ -91,11 +91,11 @@ same-table t size room blank =
 pub same-record : (d : Record) → length (d .pushes .rows) ≡ 32 → consistent d ≡ true → recordOf (sessionOf d) ≡ d
 same-record d size h =
     let table = same-table (d .pushes) size (count-fits d h) (blanks-behind d h) in
-    λ i. record { interval = d .interval; state = d .state; pushes = table i; last = d .last }
+    λ i. record { site = d .site; state = d .state; pushes = table i; last = d .last }
 
 -- the session of a session's record
 pub same-session : (s : Session) → sessionOf (recordOf s) ≡ s
-same-session s = λ i. record { interval = s .interval; state = s .state; pushes = rows-of (s .pushes) i; last = s .last }
+same-session s = λ i. record { site = s .site; state = s .state; pushes = rows-of (s .pushes) i; last = s .last }
 
 -- ---- an accepted call has room for the push that it opens
 

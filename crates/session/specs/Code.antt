@@ -9,6 +9,7 @@ use lib.Dec.{leb, ltb, eqb}
 use lib.ListN.{length}
 use Rattle.conduct.specs.declared.Call.{Call}
 use Rattle.conduct.specs.declared.Event.{Event}
+use Rattle.conduct.specs.declared.Site.{Site}
 use Rattle.conduct.specs.declared.State.the-variants.{Stopped}
 use Rattle.conduct.specs.Lists.{those}
 use Rattle.conduct.specs.Session.{fresh}
@@ -57,7 +58,7 @@ AnswersAreHistory =
 -- ---- 27 is for no record that was made, nor for one that calls with any lists reached from one that passes
 
 abbrev pub MadeIsConsistent : Type 0
-MadeIsConsistent = (interval : ℕ) → consistent (madeOf interval .session) ≡ true
+MadeIsConsistent = (site : Site) → consistent (madeOf site .session) ≡ true
 
 abbrev pub ReachedIsConsistent : Type 0
 ReachedIsConsistent = (d : Record) (asked : List Asked) → consistent d ≡ true → consistent (recordAfter d asked) ≡ true
@@ -66,14 +67,14 @@ ReachedIsConsistent = (d : Record) (asked : List Asked) → consistent d ≡ tru
 
 abbrev pub MadeAllowed : Type 0
 MadeAllowed =
-    (interval : ℕ) → 21 ≤ interval → interval ≤ 6000
-    → (madeOf interval .refusal ≡ 0) × (madeOf interval .session ≡ recordOf (fresh interval))
+    (site : Site) → 21 ≤ site .interval → site .interval ≤ 6000
+    → (madeOf site .refusal ≡ 0) × (madeOf site .session ≡ recordOf (fresh site))
 
 abbrev pub MadeRefused : Type 0
 MadeRefused =
-    (interval : ℕ) → (interval < 21) ⊎ (6000 < interval)
-    → (madeOf interval .refusal ≡ 4) × (madeOf interval .session .interval ≡ 21) × (madeOf interval .session .state ≡ Stopped)
-    × (rowsOf (madeOf interval .session .pushes) ≡ []) × (madeOf interval .session .last ≡ 0)
+    (site : Site) → (site .interval < 21) ⊎ (6000 < site .interval)
+    → (madeOf site .refusal ≡ 4) × (madeOf site .session .site .interval ≡ 21) × (madeOf site .session .state ≡ Stopped)
+    × (rowsOf (madeOf site .session .pushes) ≡ []) × (madeOf site .session .last ≡ 0)
 
 -- ---- refusals, for any record: 3 just where the list is too short, 27 just where it is not and the record fails the test
 

@@ -54,7 +54,7 @@ fn move_of(s: Session, held: &[u32], call: Call) -> Move
 {
     let state = s.state;
     match call {
-        Call::Tick => moves::tick(s.interval, numbers::next_free(held, s.last), state),
+        Call::Tick => moves::tick(s.site.interval, numbers::next_free(held, s.last), state),
         Call::Connected => moves::goes(
             State::Opening(0),
             Remark::Note(codes::SEND_SESSION_OPEN_REQUEST, 0),

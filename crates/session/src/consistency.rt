@@ -20,10 +20,10 @@ pub(crate) fn is_consistent(s: Session) -> bool
     if !table.is_blank_after() {
         return false;
     }
-    if !sound::is_allowed(s.interval) {
+    if !sound::is_allowed(s.site.interval) {
         return false;
     }
-    if !sound::is_state_sound(s.interval, state) {
+    if !sound::is_state_sound(s.site.interval, state) {
         return false;
     }
     if !sound::is_count_sound(state, count) {

@@ -13,6 +13,7 @@ use conduct::Call;
 use conduct::Event;
 use conduct::Push;
 use conduct::Pushed;
+use conduct::Site;
 use conduct::State;
 use message::Answer;
 use message::Message;
@@ -21,6 +22,7 @@ ghost use mathlib.Core.Path.{_≡_};
 ghost use lib.ListN.{length};
 ghost use Rattle.conduct.specs.declared.Call.the-variants as variants;
 ghost use Rattle.conduct.specs.declared.Pushed.the-variants as pushed;
+ghost use Rattle.conduct.specs.Session.{usual};
 ghost use Rattle.session.specs.Record.{madeOf, withLast};
 ghost use Rattle.session.specs.Answers.{told as Answers·told, SaysAndWrites, callOfBytes};
 
@@ -31,7 +33,7 @@ pub struct Table {
 }
 
 pub struct Session {
-    pub interval: u32,
+    pub site: Site,
     pub state: State,
     pub pushes: Table,
     // The last number taken.
@@ -64,17 +66,17 @@ pub struct Made {
     pub session: Session,
 }
 
-// A fresh session with a heartbeat every `interval` ticks; a stopped one where that is refused.
-pub fn make(interval: u32) -> Made
-    ensures { λ r. ⌜ r ≡ madeOf interval ⌝ }
+// A fresh session of the site; a stopped one where that is refused.
+pub fn make(site: Site) -> Made
+    ensures { λ r. ⌜ r ≡ madeOf site ⌝ }
 {
-    if !sound::is_allowed(interval) {
+    if !sound::is_allowed(site.interval) {
         return refused_making();
     }
     Made {
         refusal: 0,
         session: Session {
-            interval,
+            site,
             state: State::Waiting(1),
             pushes: tables::empty(),
             last: 0,
@@ -83,12 +85,12 @@ pub fn make(interval: u32) -> Made
 }
 
 fn refused_making() -> Made
-    ensures { λ r. ⌜ r ≡ madeOf 0 ⌝ }
+    ensures { λ r. ⌜ r ≡ madeOf (usual 0) ⌝ }
 {
     Made {
         refusal: 4,
         session: Session {
-            interval: 21,
+            site: Site { interval: 21 },
             state: State::Stopped,
             pushes: tables::empty(),
             last: 0,
@@ -203,10 +205,11 @@ impl Session {
     pub fn with_last(self, last: u32) -> Session
         ensures { λ r. ⌜ r ≡ withLast last self ⌝ }
     {
+        let site = self.site;
         let state = self.state;
         let pushes = self.pushes;
         Session {
-            interval: self.interval,
+            site,
             state,
             pushes,
             last,

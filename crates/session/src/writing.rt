@@ -225,6 +225,7 @@ pub(crate) fn perform(s: Session, held: &[u32], m: Move) -> Performed
     let parting = m.parting;
     let sweep = m.sweep;
     let remark = m.remark;
+    let site = s.site;
     let before = s.pushes;
     let first = parted(held, s.last, parting);
     let said = first.events;
@@ -235,7 +236,7 @@ pub(crate) fn perform(s: Session, held: &[u32], m: Move) -> Performed
     let events = written.events;
     Performed {
         next: Session {
-            interval: s.interval,
+            site,
             state: to,
             pushes: table,
             last: written.last,

@@ -20,9 +20,9 @@ empty-requires c κs = search needs
 
 returns-2 : tie.Need-returns-2
 returns-2 c =
-    let interval = c .before .before .before .args .interval in
+    let site = c .before .before .before .args .site in
     rw (sym (c .before .before .is-allowed .ensures) ∙ not-false _ (c .before .if1 .left))
-    (λ i. record { refusal = 0; session = record { interval = interval; state = Waiting 1; pushes = c .empty .ensures i; last = 0 } })
+    (λ i. record { refusal = 0; session = record { site = site; state = Waiting 1; pushes = c .empty .ensures i; last = 0 } })
 
 pub make-spec : {M : Type 1} → statement M
 make-spec = tie.close (tie.spec is-allowed-requires refused-making-requires returns empty-requires returns-2)

@@ -27,7 +27,7 @@ abbrev from-room : Session → Bool
 from-room s = (isUp (s .state) || eqb (length (s .pushes)) 0) && from-pushes s
 
 abbrev from-state : Session → Bool
-from-state s = soundState (s .interval) (s .state) && (leb (length (s .pushes)) 32 && from-room s)
+from-state s = soundState (s .site .interval) (s .state) && (leb (length (s .pushes)) 32 && from-room s)
 
 -- the record that is tested
 abbrev at-1 : tie.Else1 → Record

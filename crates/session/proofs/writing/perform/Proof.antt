@@ -12,17 +12,17 @@ parted-requires c κs = search needs
 
 sweep-all-requires : tie.Need-sweep-all-requires
 sweep-all-requires c κs =
-    let s = c .before .before .before .before in
+    let s = c .before .before .before .before .before in
     (omega (arith, s .pre .0), first-room (s .args .s) (s .args .m) _ _ (c .before .parted .ensures))
 
 remark-all-requires : tie.Need-remark-all-requires
 remark-all-requires c κs =
-    let s = c .before .before .before .before .before in
+    let s = c .before .before .before .before .before .before in
     made-room (s .args .s) (s .args .m) _ _ (c .before .before .parted .ensures) _ (c .sweep-all .ensures) (s .pre .0)
 
 returns : tie.Need-returns
 returns c =
-    let s = c .before .before .before .before .before .before .before .before .before in
+    let s = c .before .before .before .before .before .before .before .before .before .before in
     performed (s .args .s) (s .args .m) (now (s .args .held)) _
     (c .before .before .before .before .before .before .parted .ensures) _
     (c .before .before .before .before .sweep-all .ensures) _ (c .before .before .before .remark-all .ensures)
