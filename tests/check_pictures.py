@@ -105,7 +105,8 @@ def faults_of_names():
 
 def calls_of(lines):
     """How many calls the lines of a script make."""
-    return sum(int(line.split()[1]) if line.startswith("tick ") else 1 for line in lines)
+    calls = [line for line in lines if not line.startswith(session_moves.SETTINGS)]
+    return sum(int(line.split()[1]) if line.startswith("tick ") else 1 for line in calls)
 
 
 class Run:
@@ -194,6 +195,7 @@ def is_drawn(first, before, run):
 def faults_of_omission(command):
     """Every sort of call in every state: what it does is drawn."""
     starts = [(name, session_moves.STARTS[name][0]) for name in session_moves.STATES]
+    starts.append(("Opening", session_moves.STARTS[session_moves.OLD][0]))
     for first, before in starts + [("Up", session_moves.UP + ["tick 99"]), ("Up", session_moves.UP + ["tick 100"]), ("Up", session_moves.UP + ["tick 119"])]:
         for call in calls_of_every_sort():
             run = Run(command, before + [call])

@@ -72,6 +72,12 @@ done
 check 'replay.out by the independent program' model_prints "$top/samples/replay.out" <"$top/samples/replay.txt"
 check 'replay from a file' prints "$top/samples/replay.out" replay <"$top/samples/replay.txt"
 check 'replay byte by byte' prints_byte_by_byte "$top/samples/replay.txt" "$top/samples/replay.out" replay
+for conduct in new old; do
+    { echo "conduct $conduct"; cat "$top/samples/redundant.txt"; } >"$scratch/redundant.txt"
+    check "redundant.$conduct.out by the independent program" model_prints "$top/samples/redundant.$conduct.out" <"$scratch/redundant.txt"
+    check "redundant, conduct $conduct" prints "$top/samples/redundant.$conduct.out" replay <"$scratch/redundant.txt"
+done
+check 'redundant, no conduct said' prints "$top/samples/redundant.new.out" replay <"$top/samples/redundant.txt"
 check 'an unknown command' lists_commands mend
 check 'no command' lists_commands
 check 'a word too many' lists_commands line '##'

@@ -5,7 +5,8 @@
 
 PROGRAM and the words after it are the command that runs it, say `tools/x86 run target/bin/replay`. Runs the model's own
 tests, the scripts that were written by hand with the output due, from a file and bit by bit through a pipe, reads and
-writes that fail, the fixed vectors of tests/vectors/session.txt, which are also made again, and N random scripts. A
+writes that fail, the fixed vectors of tests/vectors/session.txt, which are also made again, those captured before a
+request, under the settings that keep their meaning (tests/independent/session_captured.py), and N random scripts. A
 difference is printed with what repeats it; `python3 tests/independent/session_cases.py S I` prints the script of a
 random one. The random part counts what it met and fails if something never came. The last line is `N passed, M failed`;
 the exit status is 0 only if nothing failed.
@@ -24,10 +25,10 @@ from failing import (from_folder, from_reset_socket, into_broken_pipe, onto_file
 from make_session_vectors import vectors_text  # noqa: E402
 from paper_runs import PAPER_SCRIPTS  # noqa: E402
 from programs import ProgramComparison, output_of_file  # noqa: E402
-from replay_examples import REPLAY_BY_HAND  # noqa: E402
 from replay_script import replay  # noqa: E402
+from scripts_by_hand import SCRIPTS_BY_HAND  # noqa: E402
+from session_captured import CAPTURED, told_without, with_settings  # noqa: E402
 from session_cases import script_numbered  # noqa: E402
-from session_examples import SESSION_BY_HAND  # noqa: E402
 from session_self_tests import all_self_tests  # noqa: E402
 from session_sightings import TO_SEE, WatchedReplay  # noqa: E402
 from session_vector_text import output_to_text, vector_from_text  # noqa: E402
@@ -37,7 +38,7 @@ LEAST_CALLS = 100000
 
 COMPARISON = ProgramComparison(
     description="Holds the program replay against the independent model of the session.", thing="script", cases=540,
-    model=replay, by_hand=SESSION_BY_HAND + REPLAY_BY_HAND + PAPER_SCRIPTS, stopped=b"stop 4\n")
+    model=replay, by_hand=SCRIPTS_BY_HAND + PAPER_SCRIPTS, stopped=b"stop 4\n")
 
 # Where the script is cut off, no line `end` or `stop` follows, and what came of its last line does nothing.
 CUT_OFF = (
@@ -61,21 +62,29 @@ def run_self_tests(tally, lines):
     tally.end()
 
 
-def run_vector(command, line):
+def run_vector(command, line, settings=()):
     """What the line says is expected; the model is asked only for what a hash does not show."""
     vector = vector_from_text(line)
-    given, status = output_of_file(command, vector.script)
-    if output_to_text(given) != vector.output:
-        COMPARISON.check((given, status), vector.script, replay(vector.script))
-        raise Difference("%s, expected %s" % (output_to_text(given), vector.output))
-    if status != 0:
-        raise Difference("exit status %d" % status)
+    script = with_settings(settings, vector.script)
+    printed, status = output_of_file(command, script)
+    told = output_to_text(told_without(settings, printed))
+    if told != vector.output:
+        COMPARISON.check((printed, status), script, replay(script))
+        raise Difference("%s, expected %s" % (told, vector.output))
+    COMPARISON.check_status(status, printed)
 
 
 def run_vectors(tally, command, lines):
     tally.begin("fixed vectors")
     for line in lines:
         tally.run("vector " + line.split(" ", 1)[0], lambda: run_vector(command, line))
+    tally.end()
+
+
+def run_captured(tally, command, captured):
+    tally.begin("vectors of %s under %s" % (captured.file, ", ".join(captured.settings)))
+    for line in vectors_of(captured.file):
+        tally.run("captured vector " + line.split(" ", 1)[0], lambda: run_vector(command, line, captured.settings))
     tally.end()
 
 
@@ -117,6 +126,8 @@ def run_all(arguments, tally):
         COMPARISON.run_by_hand(tally, command)
         run_cut_off(tally, command, CUT_OFF)
         run_vectors(tally, command, lines)
+        for captured in CAPTURED:
+            run_captured(tally, command, captured)
     COMPARISON.run_random(tally, command, arguments.seed, random_numbers(arguments), met.script_and_output)
     if arguments.case is None:
         met.report(tally)

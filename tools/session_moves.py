@@ -12,6 +12,8 @@ LOST = 12  # said of each open push where Up is left
 STATES = ["Waiting", "Connecting", "Opening", "Confirming", "Up", "Stopped"]
 ONCE, AGAIN, ADVISORY, OPEN, CLOSED = "Response, sent once", "Response, sent again", "Advisory, sent", "any open push", "closed"
 NONE, AWAITED = "no SessionOk open", "SessionOk open"
+OLD = "Opening in the old conduct"
+SETTINGS = ("interval ", "conduct ")
 
 
 def status(word):
@@ -37,7 +39,8 @@ OPENING = ["tick", "connected"]
 CONFIRMING = OPENING + [status("Ok")]
 UP = CONFIRMING + [ok(2)]
 STARTS = {
-    "Waiting": ([], 0), "Waiting 300": (["tick", "lost"], 0), "Connecting": (["tick"], 0), "Opening": (OPENING, 0), "Confirming": (CONFIRMING, 0),
+    "Waiting": ([], 0), "Waiting 300": (["tick", "lost"], 0), "Connecting": (["tick"], 0), "Opening": (OPENING, 0), OLD: (["conduct old"] + OPENING, 0),
+    "Confirming": (CONFIRMING, 0),
     "Up": (UP, 0), "Stopped": (["stop"], 0), "pushes": (UP + ["push 7", "advise 8"], 2), AWAITED: (UP + ["tick 100"], 0),
     "both": (UP + ["tick 100", "push 7"], 1),
     ONCE: (UP + ["push 7"], 1), ADVISORY: (UP + ["advise 8"], 1), "again by time": (UP + ["push 7", "tick 20"], 1),
@@ -64,12 +67,13 @@ def move(name, first, last, call, events, *trials, leaves_up=False):
 MOVES = [
     move("connect", "Waiting", "Connecting", "last tick of Waiting", (1,), ("Waiting", ["tick"]), ("Waiting 300", ["tick 300"])),
     move("connected", "Connecting", "Opening", "connected", (2,), ("Connecting", ["connected"]), ("Connecting", ["tick 1000", "connected"])),
-    move("answered", "Opening", "Confirming", "SessionOpenResponse, status Ok or RedundantSession", (3,),
-         ("Opening", [status("Ok")]), ("Opening", ["tick 19", status("RedundantSession")])),
+    move("answered", "Opening", "Confirming", "SessionOpenResponse, status Ok, in the old conduct RedundantSession too", (3,),
+         ("Opening", [status("Ok")]), (OLD, ["tick 19", status("Ok")]), (OLD, [status("RedundantSession")])),
     move("confirmed", "Confirming", "Up", "Ok naming the SessionOk", (8,), ("Confirming", [ok(2)]), ("Confirming", ["tick 19", ok(2)])),
     move("connecting-lost", "Connecting", "Waiting", "lost", (), ("Connecting", ["lost"])),
     move("opening-lost", "Opening", "Waiting", "lost", (), ("Opening", ["lost"])),
-    move("opening-refused", "Opening", "Waiting", "SessionOpenResponse, another status", (7,), ("Opening", [status("VersionMismatch")])),
+    move("opening-refused", "Opening", "Waiting", "SessionOpenResponse, another status", (7,),
+         ("Opening", [status("VersionMismatch")]), ("Opening", ["tick 19", status("RedundantSession")]), (OLD, [status("VersionMismatch")])),
     move("opening-late", "Opening", "Waiting", "20th tick", (18, 19, 7), ("Opening", ["tick 20"])),
     move("confirming-lost", "Confirming", "Waiting", "lost", (), ("Confirming", ["lost"])),
     move("confirming-advised", "Confirming", "Waiting", "Advisory naming the SessionOk", (7,),

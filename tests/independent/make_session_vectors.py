@@ -8,8 +8,9 @@ import itertools
 import sys
 
 from replay_script import Replay, replay
-from session_lines import (OPEN_REQUEST, REQUEST, RESPONSE, TO_CONFIRMING, TO_OPENING, TO_UP, advisory, ok,
-                           open_response, script_of, session_ok, unreadable)
+from session_lines import (NEARLY_REDUNDANT, OPEN_REQUEST, REDUNDANT, REDUNDANT_OTHERWISE, REQUEST, RESPONSE,
+                           TO_CONFIRMING, TO_OPENING, TO_UP, advisory, ok, open_response, opened_with, script_of,
+                           session_ok, unreadable)
 from session_vector_text import Vector, output_to_text, vector_to_text
 
 # After these a fresh session with interval 100 is in the state. In `busy` heartbeat 3 and the pushes 4 and 5 are open.
@@ -23,7 +24,7 @@ CALLS = {
     "stop": "stop", "push": "push 9", "advise": "advise 9", "unreadable-7": "unreadable 7",
     "unreadable-8": "unreadable 8", "unreadable-14": "unreadable 14", "unreadable-15": "unreadable 15",
     "no-message": "message x", "open-request": OPEN_REQUEST, "opened": open_response(),
-    "opened-redundant": open_response("RedundantSession"), "opened-not": open_response("Other"),
+    "opened-redundant": REDUNDANT, "opened-not": open_response("Other"),
     "session-ok": session_ok(2), "ok-2": ok(2), "ok-3": ok(3), "ok-5": ok(5), "ok-02": ok("02"),
     "advisory": advisory(), "advisory-2": advisory(2), "advisory-3": advisory(3), "unreadable-message": unreadable(),
     "unreadable-message-2": unreadable(2), "unreadable-message-3": unreadable(3), "unreadable-message-4": unreadable(4),
@@ -31,9 +32,36 @@ CALLS = {
 }
 REFUSED_ALIKE = ("waiting", "connecting", "stopped")  # where every message is refused, a few of them will do
 FEW_CALLS = ("tick", "tick-300", "connected", "lost", "stop", "push", "advise", "unreadable-7", "unreadable-8",
-             "no-message", "opened", "ok-2", "advisory")
+             "no-message", "opened", "opened-redundant", "ok-2", "advisory")
 FATES = {"ok": ok(3), "advisory": advisory(3), "unreadable": unreadable(3), "lost": "lost", "stop": "stop"}
 LASTS = (0, 1, 2, 3, 4, 4294967293, 4294967294, 4294967295)
+
+# Each way into Waiting.
+WAYS_TO_WAIT = {
+    "connecting-lost": ("tick", "lost"), "opening-lost": TO_OPENING + ("lost",),
+    "opening-other": TO_OPENING + (open_response(""),), "opening-redundant": TO_OPENING + (REDUNDANT, "lost"),
+    "opening-runs-out": TO_OPENING + ("tick 20",), "confirming-lost": TO_CONFIRMING + ("lost",),
+    "confirming-advisory": TO_CONFIRMING + (advisory(2),), "confirming-runs-out": TO_CONFIRMING + ("tick 20",),
+    "up-lost": TO_UP + ("lost",), "busy-lost": STATES["busy"] + ("lost",),
+    "busy-runs-out": STATES["busy"] + ("tick 20",), "full-lost": STATES["full"] + ("lost",),
+    "full-runs-out": STATES["full"] + ("tick 120",),
+}
+
+# The conducts, as they come into the names of vectors, and the settings that say so.
+CONDUCTS = {"default": (), "new": ("conduct new",), "old": ("conduct old",)}
+SETTINGS = {
+    "old-new": ("conduct old", "conduct new"), "new-old": ("conduct new", "conduct old"),
+    "old-new-old": ("conduct old", "conduct new", "conduct old"), "old-interval": ("conduct old", "interval 40"),
+    "interval-old": ("interval 40", "conduct old"), "new-interval": ("conduct new", "interval 40"),
+    "interval-new": ("interval 40", "conduct new"), "old-interval-new": ("conduct old", "interval 40", "conduct new"),
+    "interval-old-interval": ("interval 30", "conduct old", "interval 40"),
+    "old-refused": ("conduct old", "interval 20"), "refused-old": ("interval 20", "conduct old"),
+    "old-between-empty": ("", "", "conduct old", ""),
+    "no-word": ("conduct", "conduct old"), "upper": ("conduct old", "conduct New", "conduct new"),
+    "two-blanks": ("conduct  old",), "blank-behind": ("conduct old ",), "cr-behind": ("conduct old\r",),
+    "more-behind": ("conduct old", "conduct new x"), "other": ("conduct other", "conduct old", "interval 40"),
+    "behind-a-bad-line": ("x", "conduct old"), "behind-last": ("last 0", "conduct old"),
+}
 
 
 def every_call_in_every_state():
@@ -99,14 +127,60 @@ def full_tables():
 
 def ways_to_wait():
     """Each way into Waiting, and how long it lasts."""
-    ways = {"connecting-lost": ("tick", "lost"), "opening-lost": TO_OPENING + ("lost",),
-            "opening-other": TO_OPENING + (open_response(""),), "opening-runs-out": TO_OPENING + ("tick 20",),
-            "confirming-lost": TO_CONFIRMING + ("lost",), "confirming-advisory": TO_CONFIRMING + (advisory(2),),
-            "confirming-runs-out": TO_CONFIRMING + ("tick 20",), "up-lost": TO_UP + ("lost",),
-            "busy-lost": STATES["busy"] + ("lost",), "busy-runs-out": STATES["busy"] + ("tick 20",),
-            "full-lost": STATES["full"] + ("lost",), "full-runs-out": STATES["full"] + ("tick 120",)}
-    for name, lines in ways.items():
-        yield "waits-" + name, lines + ("tick 299", "connected", "tick", "connected", open_response(), "tick 20")
+    for name, lines in WAYS_TO_WAIT.items():
+        more = ("tick 299", "connected", "tick", "connected", open_response(), "tick 20")
+        yield "waits-" + name, lines + more
+        yield "waits-old-" + name, CONDUCTS["old"] + lines + more
+
+
+def conducts_kept():
+    """Each way into Waiting, and two more openings that are answered by RedundantSession."""
+    again = ("tick 300", "connected", REDUNDANT, "tick 20")
+    for (conduct, settings), (way, lines) in itertools.product(CONDUCTS.items(), WAYS_TO_WAIT.items()):
+        yield "kept-%s-%s" % (conduct, way), settings + lines + again + again + ("tick 280",)
+
+
+def redundant_in_every_state():
+    """Where the conduct is said; `every_call_in_every_state` has it by default."""
+    for conduct, (state, lines) in itertools.product(("new", "old"), STATES.items()):
+        yield ("%s-%s-opened-redundant" % (conduct, state),
+               CONDUCTS[conduct] + lines + (REDUNDANT, "push 8", "tick 19", "tick"))
+
+
+def statuses():
+    """Each status in Opening, then silence to the tick at which Waiting ends, whichever way it came."""
+    answers = {"ok": open_response(), "other": open_response("Other"), "empty": opened_with(""),
+               "none": "message <SessionOpenResponse/>"}
+    answers.update(("redundant-otherwise-%d" % number, line)
+                   for number, line in enumerate(REDUNDANT_OTHERWISE.values(), 1))
+    answers.update(("nearly-redundant-%d" % number, opened_with(status))
+                   for number, status in enumerate(NEARLY_REDUNDANT, 1))
+    for (conduct, settings), (name, line) in itertools.product(CONDUCTS.items(), answers.items()):
+        yield ("status-%s-%s" % (conduct, name),
+               settings + TO_OPENING + (line, "tick 299", "tick", "tick 20", "connected"))
+
+
+def redundant_after_ticks():
+    for (conduct, settings), ticks in itertools.product(CONDUCTS.items(), (1, 18, 19, 20)):
+        yield ("redundant-%s-after-%d" % (conduct, ticks),
+               settings + TO_OPENING + ("tick %d" % ticks, REDUNDANT, "tick 19", ok(2), "tick", "tick 279", "tick"))
+
+
+def redundant_after_last():
+    for (conduct, settings), last in itertools.product(CONDUCTS.items(), LASTS):
+        line = "last %d" % last
+        yield ("redundant-%s-last-%d" % (conduct, last),
+               settings + TO_OPENING + (line, REDUNDANT, "lost", "tick 300", "connected", REDUNDANT, "stop"))
+
+
+def settings_of_conduct():
+    """The interval is shown by the heartbeat, the conduct by the second opening."""
+    for name, lines in SETTINGS.items():
+        yield "settings-" + name, lines + TO_UP + ("tick 40", "lost", "tick 300", "connected", REDUNDANT, "tick 20")
+    for first, second in itertools.permutations(("new", "old")):
+        yield ("settings-%s-and-%s-among-calls" % (first, second),
+               CONDUCTS[first] + TO_OPENING + CONDUCTS[second] + (REDUNDANT, "lost", *CONDUCTS[second], "tick 300",
+                                                                  "connected", REDUNDANT))
 
 
 def long_life(interval):
@@ -134,7 +208,8 @@ def long_lives():
 
 
 GROUPS = (every_call_in_every_state, fates_of_pushes, pushes_about_heartbeats, late_confirming, numbers_taken,
-          numbers_of_what_is_closed, full_tables, ways_to_wait, long_lives)
+          numbers_of_what_is_closed, full_tables, ways_to_wait, long_lives, redundant_in_every_state, statuses,
+          redundant_after_ticks, redundant_after_last, conducts_kept, settings_of_conduct)
 
 
 def all_vectors():

@@ -8,22 +8,30 @@ A name is the place of a test and the test there; `*` stands for any rest. The p
 """
 
 import fnmatch
+import os
 import sys
 
 from checks import Difference, vectors_of
 from listing_cases import BY_HAND
 from paper_index_01 import DOCUMENT_01
+from paper_index_02 import DOCUMENT_02
 from paper_index_others import DOCUMENT_000, DOCUMENT_004, INTERFACES, NOT_RUN
 from paper_index_rulings import RULINGS
 from paper_runs import PAPER_LISTINGS, PAPER_SCRIPTS
 from read_driver import LISTS_ABOUT_THE_LIMIT
-from replay_examples import REPLAY_BY_HAND
-from session_examples import SESSION_BY_HAND
+from scripts_by_hand import SCRIPTS_BY_HAND
+from session_captured import CAPTURED, captured_tests
 from session_mistakes import MISTAKES
 from session_self_tests import direct_tests
 
-PAPERS = (("Document 01", DOCUMENT_01), ("Rulings", RULINGS), ("Interfaces", INTERFACES),
+PAPERS = (("Document 01", DOCUMENT_01), ("Document 02", DOCUMENT_02), ("Rulings", RULINGS), ("Interfaces", INTERFACES),
           ("Source document 000", DOCUMENT_000), ("Source document 004", DOCUMENT_004))
+
+
+def link_to_captured(captured):
+    return "[%s](../tests/vectors/%s) (`%s`)" % (
+        os.path.basename(captured.file), captured.file, "`, `".join(captured.settings))
+
 
 PLACES = {
     "framing": "a vector of [framing.txt](../tests/vectors/framing.txt): model and `ali_gather` "
@@ -33,15 +41,19 @@ PLACES = {
     "reader call": "a part of [compare_reader.py](../tests/compare_reader.py): model and `ali_read`",
     "session": "a vector of [session.txt](../tests/vectors/session.txt): model and `replay` "
                "([compare_replay.py](../tests/compare_replay.py))",
+    "captured": "a vector recorded before a request, under the settings that keep its meaning, of %s: model and "
+                "`replay` ([compare_replay.py](../tests/compare_replay.py))" % ", ".join(
+                    link_to_captured(captured) for captured in CAPTURED),
     "items": "an input written by hand ([listing_cases.py](../tests/independent/listing_cases.py), "
              "[paper_runs.py](../tests/independent/paper_runs.py)): model and `items` "
              "([compare_items.py](../tests/compare_items.py))",
     "replay": "a script written by hand ([session_examples.py](../tests/independent/session_examples.py), "
+              "[conduct_examples.py](../tests/independent/conduct_examples.py), "
               "[replay_examples.py](../tests/independent/replay_examples.py), "
               "[paper_runs.py](../tests/independent/paper_runs.py)): model and `replay` "
               "([compare_replay.py](../tests/compare_replay.py))",
-    "model": "a test of the model alone ([session_self_tests.py](../tests/independent/session_self_tests.py)), because no "
-             "script brings it about",
+    "model": "a test of the model alone ([session_self_tests.py](../tests/independent/session_self_tests.py), "
+             "[session_captured.py](../tests/independent/session_captured.py)), because no script brings it about",
 }
 
 
@@ -56,9 +68,11 @@ def tests_there():
         "reader call": {"answer list of %d places" % places for places in LISTS_ABOUT_THE_LIMIT}
         | {"every byte after beginnings"},
         "session": names_of_vectors("session.txt"),
+        "captured": set().union(*(names_of_vectors(captured.file) for captured in CAPTURED)),
         "items": {name for name, _, _ in BY_HAND + PAPER_LISTINGS},
-        "replay": {name for name, _, _ in SESSION_BY_HAND + REPLAY_BY_HAND + PAPER_SCRIPTS},
-        "model": {name for name, _ in direct_tests()} | {"by hand: " + mistake.__name__ for mistake in MISTAKES},
+        "replay": {name for name, _, _ in SCRIPTS_BY_HAND + PAPER_SCRIPTS},
+        "model": {name for name, _ in (*direct_tests(), *captured_tests())}
+        | {"by hand: " + mistake.__name__ for mistake in MISTAKES},
     }
 
 

@@ -126,6 +126,9 @@ SESSION = ("Session", (
 
 DIFFERENCES = ("Differences between the papers", (
     ("5.7's lost letter", "reader:paper-004-5.7-printed-Ok", "replay:004, 5.7 as printed: *"),
+    ("RedundantSession: 004, 5.7, as 01, under the old conduct",
+     "replay:004, 5.7 corrected: RedundantSession under the old conduct",
+     "replay:004, 5.7 corrected: RedundantSession"),
     ("`<SessionOK/>`, no parameter", "reader:paper-000-table-4-printed"),
     ("`inResponseTo=\"\"` gives 15, none at all gives 16",
      "replay:000, Tables 4 and 7: a blank Ok does not bring the session up",

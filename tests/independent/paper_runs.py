@@ -8,8 +8,8 @@ from paper_004 import STATUSES, status
 from paper_samples import message_and_answer, paper_samples, samples_of_000, samples_of_004
 from reader_answer import VALUES, kind_name
 from reader_examples_read import OTHER
-from session_examples import UP_TOLD, case, in_confirming, in_opening, in_up, output_of
-from session_lines import TO_UP, ok, script_of
+from session_examples import OPENING_TOLD, UP_TOLD, case, in_confirming, in_opening, in_up, output_of
+from session_lines import TO_OPENING, TO_UP, ok, script_of
 
 
 def listed(samples):
@@ -53,16 +53,30 @@ def sample(label):
     return next("message " + message.decode("ascii") for name, message, _ in paper_samples() if name == label)
 
 
+OPENS, REFUSED = "3 3 2 0, end confirming 0", "3 7 0 0, end waiting 0"
+
+
+def in_old_opening(name, lines, *told):
+    return case(name + " under the old conduct", ("conduct old",) + TO_OPENING + lines, OPENING_TOLD, *told)
+
+
 def opening_with_each_status():
-    """000, Table 3, and 004, 5.7 as printed: which status opens the session."""
-    for name, opens in (("Ok", True), ("VersionMismatch", False), ("ServiceNotReady", False), ("RedundantSession", True)):
-        told = "3 3 2 0, end confirming 0" if opens else "3 7 0 0, 303 1 0 0, end connecting 0"
-        more = () if opens else ("tick 299", "tick")
-        yield in_opening("000, Table 3: " + name, (sample("000-table-3-" + name),) + more, told)
+    """000, Table 3, and 004, 5.7 as printed and corrected: which status opens the session. What 000 and 004 have a
+    session do with RedundantSession, it does under the old conduct alone (document 02, M-110)."""
+    yield in_opening("000, Table 3: Ok", (sample("000-table-3-Ok"),), OPENS)
+    for name in ("VersionMismatch", "ServiceNotReady", "RedundantSession"):
+        yield in_opening("000, Table 3: " + name, (sample("000-table-3-" + name), "tick 299", "tick"),
+                         "3 7 0 0, 303 1 0 0, end connecting 0")
+    yield in_old_opening("000, Table 3: RedundantSession", (sample("000-table-3-RedundantSession"),), OPENS)
     for name, _ in STATUSES:
         message, _ = message_and_answer(*status(b"ena-org", name, OTHER))
-        yield in_opening("004, 5.7 as printed: " + name.decode(), ("message " + message.decode(),),
-                         "3 7 0 0, end waiting 0")
+        for opening in (in_opening, in_old_opening):
+            yield opening("004, 5.7 as printed: " + name.decode(), ("message " + message.decode(),), REFUSED)
+    for name, _ in STATUSES:
+        line = sample("004-5.7-right-" + name.decode())
+        yield in_opening("004, 5.7 corrected: " + name.decode(), (line,), OPENS if name == b"Ok" else REFUSED)
+        yield in_old_opening("004, 5.7 corrected: " + name.decode(), (line,),
+                             OPENS if name in (b"Ok", b"RedundantSession") else REFUSED)
 
 
 TYPES_THAT_CLOSE = ("Alert", "GoingOutOfService", "CallTerminated", "appl-x:UnsupportedVersion")

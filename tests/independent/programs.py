@@ -92,11 +92,14 @@ class ProgramComparison(NamedTuple):
         return arguments
 
     def check(self, run, data, expected):
-        """The papers leave the exit status of a program that refused to begin open: 0 and 1 will do there, and 0 alone
-        elsewhere."""
         given, status = run
         if given != expected:
             raise Difference("%s; input %.300s" % (first_differing_line(given, expected), message_to_text(data[:2000])))
+        self.check_status(status, expected)
+
+    def check_status(self, status, expected):
+        """The papers leave the exit status of a program that refused to begin open: 0 and 1 will do there, and 0 alone
+        elsewhere."""
         if status != 0 and not (status == 1 and expected.endswith(self.stopped)):
             raise Difference("exit status %d" % status)
 

@@ -1,11 +1,11 @@
-"""Scripts about the forms of lines with the output due, from the page about interfaces ("replay"). Nothing was found by
-running anything.
+"""Scripts about the forms of lines with the output due, from the page about interfaces ("replay") and the rulings on
+M-110, which adds a setting. Nothing was found by running anything.
 
 Where the page leaves room, the name of the script begins with `our reading`.
 """
 
 from session_examples import CONFIRMING_TOLD, OPENING_TOLD, UP_TOLD, output_of
-from session_lines import TO_CONFIRMING, TO_OPENING, TO_UP, script_of
+from session_lines import REDUNDANT, TO_CONFIRMING, TO_OPENING, TO_UP, ok, script_of
 
 LONGEST_LINE = 65520
 OK_2 = b"message <Ok inResponseTo='2'/>"
@@ -27,11 +27,21 @@ BAD_LINES = (
     b"last", b"last ", b"last 00", b"last 4294967296", b"last -1", b"last 1 ",
     b"1 1 0 0", b"end waiting 0", b"line 1 bad", b"# a remark", b"//", b";",
 )
-NO_SETTINGS = (
+NO_INTERVALS = (
     b"interval", b"interval ", b"interval 0100", b"interval 00", b"interval -1", b"interval +50", b"interval  50",
     b"interval 50 ", b"interval 50\r", b"interval\t50", b"Interval 50", b" interval 50", b"interval 50 50",
     b"interval 5O", b"interval 50.0", b"interval50", b"intervals 50",
 )
+NO_CONDUCTS = (
+    b"conduct", b"conduct ", b"conduct New", b"conduct NEW", b"conduct Old", b"conduct OLD", b"conduct  old",
+    b"conduct  new", b"conduct old ", b"conduct new ", b"conduct old x", b"conduct old new", b"conduct old\r",
+    b"conduct new\r", b"conduct\told", b"conduct old\t", b"conduct old\0", b"Conduct old", b"CONDUCT old",
+    b" conduct old", b"\xef\xbb\xbfconduct old", b"conduct \xef\xbb\xbfold", b"conduct=old", b"conduct: old",
+    b"conductold", b"conducts old", b"conduc old", b"conduct ol", b"conduct ne", b"conduct olds", b"conduct newer",
+    b"conduct 'old'", b"conduct \"new\"", b"conduct 0", b"conduct 1", b"conduct 100", b"conduct other", b"conduct -",
+    b"new", b"old",
+)
+NO_SETTINGS = NO_INTERVALS + NO_CONDUCTS
 
 
 def form(name, script, *told):
@@ -72,6 +82,73 @@ def settings():
     for line in NO_SETTINGS:
         yield form("no setting: %r" % line, line + b"\ninterval 20\ntick\n", "line 1 bad, line 2 bad, 1 1 0 0",
                    "end connecting 0")
+
+
+# A session answered by RedundantSession, and what it shows of its conduct.
+SHOWS_CONDUCT = script_of(TO_OPENING + (REDUNDANT,))
+SHOWS_NEW, SHOWS_OLD = "3 7 0 0, end waiting 0", "3 3 2 0, end confirming 0"
+
+
+def conduct_settings():
+    for settings, shown in (
+            ("", SHOWS_NEW), ("new", SHOWS_NEW), ("old", SHOWS_OLD), ("old new", SHOWS_NEW), ("new old", SHOWS_OLD),
+            ("new new", SHOWS_NEW), ("old old", SHOWS_OLD), ("old new old", SHOWS_OLD), ("new old new", SHOWS_NEW)):
+        lines = ["conduct " + conduct for conduct in settings.split()]
+        yield form("conducts given: " + (settings or "none"), script_of(lines) + SHOWS_CONDUCT, OPENING_TOLD, shown)
+    yield form("a conduct between empty lines", b"\n\nconduct old\n\n\n" + SHOWS_CONDUCT, OPENING_TOLD, SHOWS_OLD)
+    yield form("conducts given between empty lines", b"\nconduct old\n\nconduct new\n\n" + SHOWS_CONDUCT,
+               OPENING_TOLD, SHOWS_NEW)
+    yield form("a conduct alone", b"conduct old\n", "end waiting 0")
+    yield form("a conduct alone without LF", b"conduct new", "end waiting 0")
+    yield form("a bad conduct alone without LF", b"conduct Old", "line 1 bad, end waiting 0")
+    yield form("a conduct is a line", b"conduct old\nconduct new\n\nx\ntick", "line 4 bad, 1 1 0 0, end connecting 0")
+
+
+def conduct_and_interval():
+    """Each leaves the other as it was. The last tick of a script shows the interval."""
+    for settings in ("conduct old, interval 40", "interval 40, conduct old", "conduct new, interval 40, conduct old",
+                     "interval 30, conduct old, interval 40", "conduct old, interval 30, interval 40",
+                     "conduct old, interval 20, conduct new, interval 40, conduct old"):
+        yield form("conduct and interval: " + settings,
+                   script_of(settings.split(", ") + list(TO_OPENING) + [REDUNDANT, ok(2), "tick 40"]), OPENING_TOLD,
+                   "3 3 2 0, 4 8 0 0, 44 3 3 0, end up 0")
+    for settings in ("conduct new, interval 40", "interval 40, conduct new", "interval 40",
+                     "conduct old, interval 40, conduct new", "interval 30, conduct new, interval 40"):
+        yield form("conduct and interval: " + settings,
+                   script_of(settings.split(", ") + list(TO_UP)
+                             + ["tick 40", "lost", "tick 300", "connected", REDUNDANT]),
+                   UP_TOLD, "44 3 3 0, 345 1 0 0, 346 2 4 0, 347 7 0 0, end waiting 0")
+    for conduct in ("old", "new"):
+        yield form("conduct %s leaves interval 100" % conduct,
+                   script_of(["conduct " + conduct, *TO_UP, "tick 99", "tick"]), UP_TOLD, "104 3 3 0, end up 0")
+        for settings in ("conduct C, interval 20", "interval 20, conduct C", "interval 40, conduct C, interval 6001"):
+            settings = settings.replace("C", conduct)
+            yield form("a refused making with a conduct: " + settings,
+                       script_of(settings.split(", ")) + SHOWS_CONDUCT, "stop 4")
+    yield form("a refused making with a bad conduct", b"interval 20\nconduct Old\ninterval 40\ntick\n", "stop 4")
+    yield form("a conduct between a refused interval and another", b"interval 20\nconduct old\ninterval 40\n"
+               + SHOWS_CONDUCT, OPENING_TOLD, SHOWS_OLD)
+
+
+def conduct_after_settings():
+    yield form("a conduct after a call", b"tick\nconduct old\nconduct new\nconnected\n" + script_of([REDUNDANT]),
+               "1 1 0 0, line 2 bad, line 3 bad, 2 2 1 0", SHOWS_NEW)
+    yield form("a conduct after a call, old before", b"conduct old\ntick\nconduct new\nconnected\n"
+               + script_of([REDUNDANT]), "1 1 0 0, line 3 bad, 2 2 1 0", SHOWS_OLD)
+    yield form("a conduct in Opening", script_of(TO_OPENING + ("conduct old", REDUNDANT)), OPENING_TOLD, "line 3 bad",
+               SHOWS_NEW)
+    yield form("a conduct in Opening, old before",
+               script_of(("conduct old",) + TO_OPENING + ("conduct new", REDUNDANT)), OPENING_TOLD, "line 4 bad",
+               SHOWS_OLD)
+    yield form("a conduct after a refused call", b"lost\nconduct old\n", "1 refused 6, line 2 bad, end waiting 0")
+    yield form("a conduct after last", b"last 0\nconduct old\n" + SHOWS_CONDUCT, "line 2 bad", OPENING_TOLD, SHOWS_NEW)
+    yield form("a conduct when stopped", b"stop\nconduct old\nconduct x\ntick\n",
+               "line 2 bad, line 3 bad, 2 refused 5, end stopped 0")
+    for line in NO_CONDUCTS:
+        yield form("no conduct: %r" % line, line + b"\nconduct old\n" + SHOWS_CONDUCT, "line 1 bad, line 2 bad",
+                   OPENING_TOLD, SHOWS_NEW)
+        yield form("no conduct after old: %r" % line, b"conduct old\n" + line + b"\nconduct new\n" + SHOWS_CONDUCT,
+                   "line 2 bad, line 3 bad", OPENING_TOLD, SHOWS_OLD)
 
 
 def readings():
@@ -132,4 +209,5 @@ def long_lines():
                ", ".join("line %d bad" % number for number in range(1, 3001)), "1 1 0 0, end connecting 0")
 
 
-REPLAY_BY_HAND = tuple(settings()) + tuple(readings()) + tuple(lines()) + tuple(long_lines())
+REPLAY_BY_HAND = (tuple(settings()) + tuple(conduct_settings()) + tuple(conduct_and_interval())
+                  + tuple(conduct_after_settings()) + tuple(readings()) + tuple(lines()) + tuple(long_lines()))

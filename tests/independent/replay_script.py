@@ -10,10 +10,10 @@ import re
 import sys
 
 from reader import read_message
-from session import GREATEST_NUMBER, Session
+from session import GREATEST_NUMBER, NEW, OLD, Session, Site
 
 LONGEST_LINE = 65520
-INTERVAL_WHERE_ABSENT = 100
+SITE_WHERE_ABSENT = Site(interval=100)
 MOST_TICKS = 1000000
 
 NUMBER = re.compile(rb"0|[1-9][0-9]*")
@@ -38,6 +38,11 @@ def number_between(text, least, most):
     return number if number is not None and least <= number <= most else None
 
 
+# The settings, each by the field of the site that it sets; what stands after the one space gives its value, or None
+# where the setting is not well formed.
+SETTINGS = {b"interval": number_from, b"conduct": {b"new": NEW, b"old": OLD}.get}
+
+
 def lines_of(script):
     """A last line without LF counts; after the last LF no line begins unless something stands there."""
     lines = script.split(b"\n")
@@ -48,7 +53,7 @@ class Replay:
     session_type = Session  # a wrong one takes its place where the tests themselves are tested
 
     def __init__(self):
-        self.interval = INTERVAL_WHERE_ABSENT
+        self.site = SITE_WHERE_ABSENT
         self.session = None  # made where the settings end
         self.line_number = self.calls = 0
         self.output = []
@@ -65,16 +70,16 @@ class Replay:
             self.output.append("line %d bad" % self.line_number)
 
     def take_setting(self, line):
-        """Says whether the line is a well-formed setting. The number may be any: it is the making that refuses."""
+        """Says whether the line is a well-formed setting. An interval may be any: it is the making that refuses."""
         word, _, text = line.partition(b" ")
-        number = number_from(text)
-        if len(line) > LONGEST_LINE or word != b"interval" or number is None:
+        value = SETTINGS[word](text) if word in SETTINGS and len(line) <= LONGEST_LINE else None
+        if value is None:
             return False
-        self.interval = number
+        self.site = self.site._replace(**{word.decode("ascii"): value})
         return True
 
     def end_settings(self):
-        self.session = self.session_type(self.interval)
+        self.session = self.session_type(self.site)
         if self.session.refusal:
             self.output.append("stop %d" % self.session.refusal)
 

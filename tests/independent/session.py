@@ -1,10 +1,10 @@
 """The provider's session, written from the papers alone, to hold the real code against.
 
-Document 01 ("The session", "Numbers of refusal") and the rulings on the session, against an absolute clock: the session
-numbers the ticks it accepts, and whatever waits is noted with the number of the tick at which it is due. Nothing is
-counted down, so a mistake in a countdown is not made here too.
+Document 01 ("The session", "Numbers of refusal"), document 02 (M-110) and the rulings on the session, against an
+absolute clock: the session numbers the ticks it accepts, and whatever waits is noted with the number of the tick at
+which it is due. Nothing is counted down, so a mistake in a countdown is not made here too.
 
-    session = Session(interval)          session.refusal is 4 where the making was refused
+    session = Session(Site(interval))    session.refusal is 4 where the making was refused
     session.call("tick")                 the refusal, or 0, and the list of events
 
 The other calls: "connected", "lost", "stop", "push_response" and "push_advisory" with the host's handle, "message" with
@@ -28,6 +28,8 @@ TAKE_A_NUMBER = (SEND_OPEN_REQUEST, SEND_SESSION_OK, SEND_RESPONSE, SEND_ADVISOR
 
 LIST_SHORT, BAD_INTERVAL, IS_STOPPED, DOES_NOT_FIT, TABLE_FULL = range(3, 8)
 READER_REFUSALS = range(8, 15)
+
+CONDUCTS = NEW, OLD = "new", "old"
 
 PLACES_NEEDED = 40
 LEAST_INTERVAL, MOST_INTERVAL = 21, 6000
@@ -65,8 +67,21 @@ ACTING = {
 
 # Meanings in the reader's answer.
 NAMES_A_NUMBER = 1
-STATUSES_THAT_OPEN = (1, 2)  # Ok, RedundantSession
+STATUS_OK, REDUNDANT_SESSION = 1, 2
 UNREADABLE_MESSAGE = 1
+
+STATUSES_THAT_OPEN = {NEW: (STATUS_OK,), OLD: (STATUS_OK, REDUNDANT_SESSION)}
+
+
+class Site(NamedTuple):
+    """What is chosen when a session is made. What a later request lets a site choose is one field more, with the value
+    that holds where none is named."""
+
+    interval: int
+    conduct: str = NEW
+
+
+SITE_OF_A_REFUSED_MAKING = Site(LEAST_INTERVAL)
 
 
 class Event(NamedTuple):
@@ -96,11 +111,14 @@ def number_named(value):
     return value.number if meaning_of(value) == NAMES_A_NUMBER else None
 
 
+def refusal_of_making(site):
+    return 0 if LEAST_INTERVAL <= site.interval <= MOST_INTERVAL else BAD_INTERVAL
+
+
 class Session:
-    def __init__(self, interval):
-        refused = not LEAST_INTERVAL <= interval <= MOST_INTERVAL
-        self.refusal = BAD_INTERVAL if refused else 0
-        self.interval = LEAST_INTERVAL if refused else interval
+    def __init__(self, site):
+        refused = self.refusal = refusal_of_making(site)
+        self.site = SITE_OF_A_REFUSED_MAKING if refused else site
         self.state = STOPPED if refused else WAITING
         self.clock = 0  # the number of the last tick that was accepted
         self.timer_due = None if refused else 1  # the tick at which the session's own timer runs out; None: none runs
@@ -150,7 +168,7 @@ class Session:
     def send_session_ok(self):
         self.session_ok = self.send(SEND_SESSION_OK)
         self.timer_due = self.clock + TICKS_TO_ANSWER
-        self.heartbeat_due = self.clock + self.interval
+        self.heartbeat_due = self.clock + self.site.interval
 
     def close_session_ok(self):
         self.session_ok = self.timer_due = None
@@ -227,7 +245,7 @@ class Session:
     # The kinds that are acted on.
 
     def hear_open_response(self, answer):
-        if meaning_of(value_of(answer, "status")) in STATUSES_THAT_OPEN:
+        if meaning_of(value_of(answer, "status")) in STATUSES_THAT_OPEN[self.site.conduct]:
             self.state = CONFIRMING
             self.send_session_ok()
         else:

@@ -1,4 +1,4 @@
-"""Random scripts. The model runs along while one is written, so that a line can fit what the session is at.
+"""Random scripts: the settings, then moves of a writer, some of them more often by the script's style.
 
     python3 tests/independent/session_cases.py SEED CASE
 
@@ -8,267 +8,13 @@ prints the script of that number, as tests/compare_replay.py runs it.
 import random
 import sys
 
-from reader_cases import hurt_once, nearly_a_message, well_formed
-from replay_examples import BAD_LINES, NO_SETTINGS
-from replay_script import LONGEST_LINE, Replay
-from session import (CONFIRMING, CONNECTING, GREATEST_NUMBER, LINKED, MOST_PUSHES, OPENING, STOPPED, TICKS_TO_ANSWER,
-                     UP, WAITING)
-from session_lines import (OPEN_REQUEST, REQUEST, RESPONSE, advisory, ok, open_response, script_of, session_ok,
-                           unreadable)
+from replay_examples import NO_CONDUCTS
+from session import CONDUCTS, UP
+from session_lines import script_of
+from session_writer import Writer
 
 INTERVALS = (21, 21, 22, 23, 40, 40, 41, 60, 99, 100, 100, 257, 1000, 6000)
 REFUSED_INTERVALS = (0, 1, 20, 6001, 65557, 4294967295)
-MOST_CALLS = 12000  # a script that has so many is ended
-HANDLES = (0, 1, 17, 17, 4294967295)
-
-
-class Writer:
-    def __init__(self, rng):
-        self.rng = rng
-        self.lines = []
-        self.replay = Replay()
-        self.faith = rng.choice((0.8, 0.97, 1))  # how likely the other side answers a SessionOk
-
-    @property
-    def session(self):
-        if self.replay.session is None:
-            self.replay.end_settings()
-        return self.replay.session
-
-    def write(self, *lines):
-        for line in lines:
-            self.lines.append(line)
-            self.replay.take_line(line.encode("latin-1"))
-
-    def is_over(self):
-        return self.session.state == STOPPED or self.replay.calls > MOST_CALLS
-
-    def chance(self, likely):
-        return self.rng.random() < likely
-
-    def number(self):
-        return self.rng.choice(HANDLES) if self.chance(0.3) else self.rng.getrandbits(self.rng.randint(1, 32))
-
-    # Time.
-
-    def tick(self, many):
-        if many < 1:
-            return
-        if many < 6 and self.chance(0.5):
-            self.write(*["tick"] * many)
-        else:
-            self.write("tick %d" % many)
-
-    def pass_ticks_until(self, due):
-        """Lets time pass, and mostly answers the heartbeats that come on the way."""
-        while self.session.state == UP and self.session.clock < due and not self.is_over():
-            if self.session.session_ok is not None and self.chance(self.faith):
-                self.answer_session_ok()
-            self.tick(min(due, self.session.heartbeat_due) - self.session.clock)
-        self.tick(due - self.session.clock)
-
-    def dues(self):
-        session = self.session
-        dues = [session.timer_due, session.heartbeat_due]
-        for push in session.pushes:
-            dues += [push.resend_due, push.close_due]
-        return [due for due in dues if due is not None]
-
-    def wait_a_little(self):
-        self.tick(self.rng.choice((1, 1, 2, 5, 19, 20)))
-
-    def wait_for_something(self):
-        """Up to a tick at which something is due, the one before or the one after."""
-        dues = self.dues()
-        if dues:
-            self.pass_ticks_until(self.rng.choice(dues) + self.rng.choice((-1, 0, 0, 0, 1)))
-        else:
-            self.wait_a_little()
-
-    # Coming up.
-
-    def advance(self):
-        """A step towards Up."""
-        state = self.session.state
-        if state == WAITING:
-            self.tick(self.session.timer_due - self.session.clock)
-        elif state == CONNECTING:
-            self.tick(self.rng.choice((0, 0, 0, 1, 20, 299, 300, 301)))
-            self.write("connected")
-        elif state == OPENING:
-            self.tick(self.rng.choice((0, 0, 1, 18, 19)))
-            self.write(open_response(self.rng.choice(("Ok", "Ok", "RedundantSession"))))
-        elif state == CONFIRMING:
-            self.tick(self.rng.choice((0, 0, 1, 18, 19)))
-            self.answer_session_ok()
-
-    def come_up(self):
-        while self.session.state != UP and not self.is_over():
-            if self.chance(0.04):
-                self.stumble()
-            if self.session.state in LINKED and self.chance(0.3):
-                self.rng.choice((self.say_anything, self.say_anything, self.name_nothing, self.hand_in))()
-            self.advance()
-
-    def stumble(self):
-        """What keeps a session from coming up, and now and then a last number that shows which ones are held."""
-        state, number = self.session.state, self.session.session_ok
-        if state == OPENING and self.chance(0.5):
-            self.write(open_response(self.rng.choice(("VersionMismatch", "", "ok"))))
-        elif state == CONFIRMING and self.chance(0.5):
-            self.write(self.rng.choice((advisory, unreadable))(number))
-        elif state in (OPENING, CONFIRMING) and self.chance(0.7):
-            if self.chance(0.5):
-                self.set_last_before(number)
-            self.tick(TICKS_TO_ANSWER if self.chance(0.7) else 0)
-        elif state != WAITING:
-            self.write("lost")
-
-    # Pushes and the answers to them.
-
-    def push(self):
-        self.write("%s %d" % (self.rng.choice(("push", "push", "advise")), self.number()))
-
-    def push_some(self):
-        for _ in range(self.rng.choice((1, 1, 2, 3, 5))):
-            self.push()
-
-    def fill_table(self):
-        while self.session.state == UP and len(self.session.pushes) < MOST_PUSHES:
-            self.push()
-            if self.chance(0.05):
-                self.tick(1)
-        self.push_some()
-
-    def open_push(self):
-        """The number of an open push; a number that is likely none where none is open."""
-        pushes = self.session.pushes
-        return self.rng.choice(pushes).number if pushes else self.session.last
-
-    def answer_push(self):
-        self.write(ok(self.open_push()))
-
-    def object_to_push(self):
-        self.write(advisory(self.open_push()))
-
-    def object_unreadable(self):
-        number = self.open_push()
-        self.write(unreadable(number))
-        if self.chance(0.3):
-            self.tick(self.rng.choice((0, 1, 19)))
-            self.write(self.rng.choice((unreadable, unreadable, ok, advisory))(number))
-
-    def answer_session_ok(self):
-        if self.session.session_ok is not None:
-            objects = self.session.state == UP and self.chance(0.2)
-            self.write((self.rng.choice((advisory, unreadable)) if objects else ok)(self.session.session_ok))
-
-    # The numbers.
-
-    def set_last_before(self, number):
-        number = self.session.last if number is None else number
-        self.write("last %d" % ((number - self.rng.choice((1, 1, 1, 2))) % (GREATEST_NUMBER + 1)))
-
-    def set_last(self):
-        open_numbers = [push.number for push in self.session.pushes]
-        if self.session.session_ok is not None:
-            open_numbers += [self.session.session_ok] * (1 + len(open_numbers))
-        if open_numbers and self.chance(0.7):
-            self.set_last_before(self.rng.choice(open_numbers))
-        else:
-            self.write("last %d" % self.rng.choice((0, GREATEST_NUMBER, GREATEST_NUMBER - 1, GREATEST_NUMBER - 3,
-                                                    self.number())))
-
-    def pass_over(self):
-        """Sets the last number before an open one and takes the next: with a push, a heartbeat or an ending."""
-        if not self.session.pushes:
-            self.push_some()
-        if self.chance(0.5):
-            self.await_heartbeat()
-        self.set_last()
-        self.rng.choice((self.push_some, self.push_some, self.wait_for_something, self.end))()
-
-    def pass_over_both(self):
-        """A push and the SessionOk with neighbouring numbers, one after the other."""
-        self.await_heartbeat()
-        first = self.session.last
-        self.push_some()
-        self.set_last_before(first)
-        self.rng.choice((self.push_some, self.end))()
-
-    # The heartbeat.
-
-    def await_heartbeat(self):
-        """Up to the tick that sends one."""
-        if self.session.state == UP and self.session.session_ok is None:
-            self.tick(self.session.heartbeat_due - self.session.clock)
-
-    def meet_heartbeat(self):
-        """Pushes that are due in the tick of a heartbeat, sometimes as many as there can be."""
-        if self.session.state != UP:
-            return
-        self.pass_ticks_until(self.session.heartbeat_due - TICKS_TO_ANSWER * self.rng.choice((1, 1, 2)))
-        if self.session.session_ok is not None:
-            self.answer_session_ok()
-        (self.fill_at_once if self.chance(0.2) else self.push_some)()
-        if self.chance(0.4):
-            self.set_last()
-        self.pass_ticks_until(self.session.heartbeat_due or 0)
-
-    def fill_at_once(self):
-        while self.session.state == UP and len(self.session.pushes) < MOST_PUSHES:
-            self.push()
-
-    # Endings.
-
-    def end(self):
-        self.rng.choice((self.end_by_timer, self.end_by_timer, self.lose))()
-
-    def lose(self):
-        self.write("lost")
-
-    def end_by_timer(self):
-        """No answer to a SessionOk; pushes are open, and may be due in the same tick."""
-        self.await_heartbeat()
-        if self.session.state != UP:
-            return
-        wait = self.rng.choice((0, 0, 3, 19))
-        self.tick(wait)
-        (self.fill_at_once if self.chance(0.2) else self.push_some)()
-        self.tick(TICKS_TO_ANSWER - wait)
-
-    # What does not fit.
-
-    def name_nothing(self):
-        near = self.session.last if self.chance(0.5) else self.open_push()
-        texts = ("0%d" % near, " %d" % near, near + 1, near + 2**32, "", near - 1, "x", "+%d" % near, "%d." % near)
-        self.write(self.rng.choice((ok, advisory, unreadable))(self.rng.choice(texts)))
-
-    def say_anything(self):
-        """A message of any kind, plain, or as the reader's own cases have it."""
-        if self.chance(0.6):
-            number = self.open_push()
-            relation = self.rng.choice((None, number))
-            self.write(self.rng.choice((OPEN_REQUEST, open_response(), session_ok(number), ok(number),
-                                        advisory(relation), unreadable(relation), REQUEST, REQUEST, RESPONSE)))
-            return
-        message = self.rng.choice((well_formed, nearly_a_message, hurt_once))(self.rng)
-        self.write("message " + message.replace(b"\n", b" ").decode("latin-1"))
-
-    def hand_in(self):
-        refusal = self.rng.randint(8, 14) if self.chance(0.7) else self.rng.choice((0, 7, 15, 27, 264, self.number()))
-        self.write("unreadable %d" % refusal)
-
-    def call_anything(self):
-        self.rng.choice((lambda: self.write("connected"), self.push, self.push, self.hand_in, self.say_anything,
-                         self.wait_a_little, lambda: self.write("tick"), self.lose))()
-
-    def write_badly(self):
-        line = self.rng.choice(BAD_LINES + NO_SETTINGS + (b"interval 50", b"", b""))
-        if self.chance(0.08):
-            line = ok(self.open_push()).encode().ljust(LONGEST_LINE + self.rng.choice((0, 1, 20)))
-        self.write(line.decode("latin-1"))
-
 
 EVERYDAY = {Writer.wait_for_something: 8, Writer.wait_a_little: 4, Writer.push_some: 8, Writer.answer_push: 6,
             Writer.object_to_push: 2, Writer.object_unreadable: 3, Writer.answer_session_ok: 4, Writer.name_nothing: 2,
@@ -285,16 +31,27 @@ STYLES = (
     {Writer.object_unreadable: 20, Writer.wait_for_something: 16},
     {Writer.call_anything: 20, Writer.say_anything: 10},
     {Writer.write_badly: 12, Writer.call_anything: 4},
+    {Writer.open_again: 12, Writer.set_last: 3},
 )
 
 
+def interval_line(writer):
+    interval = writer.rng.choice(INTERVALS) if writer.chance(0.8) else writer.rng.randint(21, 300)
+    if writer.chance(0.05):
+        interval = writer.rng.choice(REFUSED_INTERVALS)
+    return "interval %d" % interval
+
+
 def write_settings(writer):
+    """Settings in any order, each perhaps more than once; now and then a line that is none ends them early."""
     rng = writer.rng
-    for _ in range(rng.choice((0, 1, 1, 1, 1, 2))):
-        interval = rng.choice(INTERVALS) if writer.chance(0.8) else rng.randint(21, 300)
-        if writer.chance(0.05):
-            interval = rng.choice(REFUSED_INTERVALS)
-        writer.write(*[""] * rng.choice((0, 0, 0, 1)), "interval %d" % interval)
+    lines = [interval_line(writer) for _ in range(rng.choice((0, 1, 1, 1, 1, 2)))]
+    lines += ["conduct " + rng.choice(CONDUCTS) for _ in range(rng.choice((0, 0, 1, 1, 1, 2)))]
+    rng.shuffle(lines)
+    if writer.chance(0.08):
+        lines.insert(rng.randint(0, len(lines)), rng.choice(NO_CONDUCTS).decode("latin-1"))
+    for line in lines:
+        writer.write(*[""] * rng.choice((0, 0, 0, 1)), line)
 
 
 def call_before_up(writer):
@@ -323,7 +80,7 @@ def random_script(rng, number):
     writer = Writer(rng)
     write_settings(writer)
     if writer.session.refusal:
-        writer.write(*rng.choices(("tick", "x", "interval 100", "", "stop"), k=rng.randint(0, 5)))
+        writer.write(*rng.choices(("tick", "x", "interval 100", "conduct old", "", "stop"), k=rng.randint(0, 5)))
         return script_of(writer.lines)
     moves = {**EVERYDAY, **STYLES[number % len(STYLES)]}
     if writer.chance(0.2):

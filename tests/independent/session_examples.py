@@ -1,5 +1,6 @@
-"""Scripts about the session's conduct with the output due, from document 01 ("The session", "Numbers of refusal") and
-the rulings on the session. Nothing was found by running anything.
+"""Scripts about what the session does with the output due, from document 01 ("The session", "Numbers of refusal") and
+the rulings on the session. Nothing was found by running anything. `conduct_examples` has those about RedundantSession,
+which the two conducts of document 02 (M-110) tell apart.
 
 What is told stands on one line, parted by commas. The calls of a script are numbered from 1, so that the ones after
 `TO_UP` have the numbers from 5 on; at that time one tick has passed, and the last number taken is 2, the SessionOk's.
@@ -59,7 +60,6 @@ COMING_UP = (
     in_opening("Opening answered after 19 ticks", ("tick 19", open_response()), "22 3 2 0, end confirming 0"),
     in_opening("Confirming has its own 20 ticks", ("tick 19", open_response(), "tick 19", ok(2)),
                "22 3 2 0, 42 8 0 0, end up 0"),
-    in_opening("RedundantSession", (open_response("RedundantSession"), ok(2)), "3 3 2 0, 4 8 0 0, end up 0"),
     in_opening("another status", (open_response("VersionMismatch"), "lost", "tick 299", "tick"),
                "3 7 0 0, 4 refused 6, 304 1 0 0, end connecting 0"),
     in_opening("a status that is only nearly Ok", (open_response("ok"),), "3 7 0 0, end waiting 0"),

@@ -10,8 +10,12 @@ REQUEST = 'message <Request><QueryRequest ID="5"/></Request>'
 RESPONSE = 'message <Response><QueryResponse inResponseTo="3"/></Response>'
 
 
+def opened_with(status):
+    return 'message <SessionOpenResponse status="%s"/>' % status
+
+
 def open_response(status="Ok"):
-    return 'message <SessionOpenResponse status="%s%s"/>' % (STATUS_URI, status)
+    return opened_with(STATUS_URI + status)
 
 
 def session_ok(number):
@@ -30,6 +34,27 @@ def advisory(number=None, uri=OTHER_URI):
 def unreadable(number=None):
     return advisory(number, UNREADABLE_URI)
 
+
+REDUNDANT = open_response("RedundantSession")
+
+# The same status in other bytes, by what is other.
+REDUNDANT_OTHERWISE = {
+    "single quotes": REDUNDANT.replace('"', "'"),
+    "a decimal reference": open_response("&#82;edundantSession"),
+    "hexadecimal references": opened_with("&#x75;rn:nena-org:dtc:aqstcp:status&#x3A;Redundant&#x53;ession"),
+    "zeros in a reference": open_response("Redundant&#00083;ession"),
+    "a prefix and two tags": "message <a:SessionOpenResponse b:status='%sOk' status = '%sRedundantSession' ></"
+                             "a:SessionOpenResponse >" % (STATUS_URI, STATUS_URI),
+    "a declaration, a comment and content": "message <?xml version='1.0'?><!--Ok--><SessionOpenResponse version='1' "
+                                            "status='%sRedundantSession'>Ok<Ok/></SessionOpenResponse>" % STATUS_URI,
+}
+
+# Statuses that are nearly RedundantSession: any other.
+NEARLY_REDUNDANT = tuple(STATUS_URI + name for name in (
+    "RedundantSessions", "RedundantSessio", "redundantSession", "REDUNDANTSESSION", "Redundant Session",
+    "RedundantSession ", "RedundantSession&#32;", "OkRedundantSession", "RedundantSessionOk", "Redundant")) + (
+    "RedundantSession", " %sRedundantSession" % STATUS_URI, "urn:ena-org:dtc:aqstcp:status:RedundantSession",
+    "urn:nena-org:dtc:aqs:status:RedundantSession")
 
 # With these a fresh session comes up. The SessionOk is sent after the first tick, under number 2.
 TO_OPENING = ("tick", "connected")

@@ -1,9 +1,11 @@
 """Sessions that are wrong, to test the tests: each is a mistake that looks right, and some script must show it.
 
-The first ones stand in document 01 ("Errors that look right"), the others turn round a rule or a ruling each.
+The first ones stand in document 01 ("Errors that look right"), the others turn round a rule or a ruling each. The ones
+about the conduct are in `conduct_mistakes`.
 """
 
 import session
+from conduct_mistakes import CONDUCT_MISTAKES
 from session import (ACKNOWLEDGED, ADVISED, CONFIRMING, DISCONNECT, LOST, OPENING, SEND_GOING_OUT, STOPPED, UNMATCHED,
                      UP, WAITING, Session, number_named, value_of)
 
@@ -117,7 +119,7 @@ class HeartbeatCountsFromItsOk(Session):
     def close_session_ok(self):
         super().close_session_ok()
         if self.state == UP:
-            self.heartbeat_due = self.clock + self.interval
+            self.heartbeat_due = self.clock + self.site.interval
 
 
 class FirstHeartbeatCountsFromUp(Session):
@@ -125,7 +127,7 @@ class FirstHeartbeatCountsFromUp(Session):
         before = self.state
         super().hear_ok(answer)
         if before == CONFIRMING and self.state == UP:
-            self.heartbeat_due = self.clock + self.interval
+            self.heartbeat_due = self.clock + self.site.interval
 
 
 class HeartbeatGoesFirst(Session):
@@ -194,14 +196,6 @@ class NumbersBeginAgain(Session):
         super().connected()
 
 
-class TakesRedundantForOther(Session):
-    def hear_open_response(self, answer):
-        if value_of(answer, "status").meaning == 2:
-            self.leave((DISCONNECT,))
-        else:
-            super().hear_open_response(answer)
-
-
 class Has33Places(Session):
     def refusal_of(self, what, given, places):
         refusal = super().refusal_of(what, given, places)
@@ -232,4 +226,4 @@ class TicksWhileConnecting(Session):
 
 
 MISTAKES = tuple(value for value in list(vars().values())
-                 if isinstance(value, type) and issubclass(value, Session) and value is not Session)
+                 if isinstance(value, type) and issubclass(value, Session) and value is not Session) + CONDUCT_MISTAKES

@@ -1,27 +1,28 @@
 """Tests of the session's model itself, so that the real code is not held against a mistake.
 
-Each raises on a difference. What no script can show is called directly; random scripts must keep the promises that hold
-for every session; and wrong sessions must be noticed by the scripts written by hand, by the random ones and by the
-vectors.
+Each raises on a difference. What no script can show is called directly; captured vectors must keep their meaning;
+random scripts must keep the promises that hold for every session; and mistakes must be noticed by the scripts written
+by hand, by the random ones and by the vectors.
 """
 
 import copy
+import itertools
 
 from checks import Difference, compare_vectors_written_again, equal
 from reader_answer import KINDS, NOT_THERE, VALUES, Answer, Value
-from replay_examples import REPLAY_BY_HAND
 from replay_script import Replay, replay
-from session import (ACKNOWLEDGED, ADVISED, FITS, LOST, MOST_PUSHES, SEND_ADVISORY, SEND_RESPONSE, SEND_RESPONSE_AGAIN,
-                     STATES, STOPPED, TIMED_OUT, UP, Session)
+from scripts_by_hand import SCRIPTS_BY_HAND
+from session import (ACKNOWLEDGED, ADVISED, CONDUCTS, FITS, LINKED, LOST, MOST_PUSHES, NEW, SEND_ADVISORY,
+                     SEND_RESPONSE, SEND_RESPONSE_AGAIN, STATES, STOPPED, TIMED_OUT, UP, Session, Site)
+from session_captured import captured_tests, with_settings
 from session_cases import script_numbered
-from session_examples import SESSION_BY_HAND
 from session_lines import TO_CONFIRMING, TO_OPENING, TO_UP, script_of
 from session_mistakes import MISTAKES
-from session_sightings import TO_SEE
+from session_sightings import OPENED_BY_REDUNDANT, TO_SEE, WatchedReplay
 from session_vector_text import vector_from_text, vector_to_text
 
 SEED = 911  # the model does not change from run to run, so neither need its tests
-SCRIPTS = 72
+SCRIPTS = 80
 SHORT_SCRIPT = 2000
 
 GIVEN = {"push_response": (7,), "push_advisory": (7,), "unreadable": (9,), "message": (
@@ -52,27 +53,53 @@ def test_short_list(state):
 
 
 def test_refused_making():
-    for interval in (0, 20, 6001, 4294967295):
-        session = Session(interval)
-        equal((session.refusal, session.state, session.interval, session.last, session.session_ok, session.pushes),
-              (4, STOPPED, 21, 0, None, []), "interval %d" % interval)
+    for interval, conduct in itertools.product((0, 20, 6001, 4294967295), CONDUCTS):
+        session = Session(Site(interval, conduct))
+        equal((session.refusal, session.state, session.site, session.last, session.session_ok, session.pushes),
+              (4, STOPPED, Site(21, NEW), 0, None, []), "interval %d, conduct %s" % (interval, conduct))
         for what in FITS:
             equal(session.call(what, *GIVEN.get(what, ())), (5, []), what)
 
 
+def test_making_without_conduct():
+    equal(Session(Site(100)).site, Site(interval=100, conduct=NEW), "a site that names no conduct")
+    for conduct in CONDUCTS:
+        equal(Session(Site(100, conduct)).site, Site(100, conduct), "a site that names one")
+
+
 def test_stop_keeps():
+    for state, conduct in itertools.product(BEGINNINGS, CONDUCTS):
+        session = session_after(("interval 77", "conduct " + conduct) + BEGINNINGS[state])
+        last = session.last
+        session.call("stop")
+        equal((session.state, session.site), (STOPPED, Site(77, conduct)), "stop in " + state)
+        equal(session.last - last, 1 if state in LINKED else 0, "the numbers that stop takes in " + state)
     session = session_after(("interval 77",) + TO_UP + ("push 1", "stop"))
-    equal((session.interval, session.last), (77, 4), "interval and last number")
+    equal((session.site.interval, session.last), (77, 4), "interval and last number")
+
+
+def test_nothing_else_differs():
+    """The conducts tell apart the scripts that meet RedundantSession in Opening, and no others."""
+    for script in (script for script, _ in short_by_hand() if b"conduct" not in script):
+        new, old = WatchedReplay(), WatchedReplay()
+        differ = new.run(with_settings(("conduct new",), script)) != old.run(with_settings(("conduct old",), script))
+        equal(differ, old.seen[OPENED_BY_REDUNDANT] > 0, "whether the conducts differ in %.300r" % script)
 
 
 # After `TO_UP` and a push the Response 3 is open. An answer that no reader gives is taken as it stands: a value that is
 # not there names nothing and means other, whatever else is said of it.
 NAMES_3 = Value(1, 0, 1, 1, 3)
 NAMES_3_NOT_THERE = Value(0, 0, 1, 1, 3)
+IN_OPENING_OF_OLD = ("conduct old",) + TO_OPENING
 HANDED_IN = (
     (TO_OPENING, answer_of("SessionOpenResponse"), [(7, 0, 0)]),
     (TO_OPENING, answer_of("SessionOpenResponse", status=Value(0, 0, 0, 1, 0)), [(7, 0, 0)]),
-    (TO_OPENING, answer_of("SessionOpenResponse", status=Value(1, 0, 0, 2, 0)), [(3, 2, 0)]),
+    (TO_OPENING, answer_of("SessionOpenResponse", status=Value(0, 0, 0, 2, 0)), [(7, 0, 0)]),
+    (TO_OPENING, answer_of("SessionOpenResponse", status=Value(1, 0, 0, 2, 0)), [(7, 0, 0)]),
+    (IN_OPENING_OF_OLD, answer_of("SessionOpenResponse"), [(7, 0, 0)]),
+    (IN_OPENING_OF_OLD, answer_of("SessionOpenResponse", status=Value(0, 0, 0, 1, 0)), [(7, 0, 0)]),
+    (IN_OPENING_OF_OLD, answer_of("SessionOpenResponse", status=Value(0, 0, 0, 2, 0)), [(7, 0, 0)]),
+    (IN_OPENING_OF_OLD, answer_of("SessionOpenResponse", status=Value(1, 0, 0, 2, 0)), [(3, 2, 0)]),
     (TO_UP + ("push 9",), answer_of("Ok"), [(15, 0, 0)]),
     (TO_UP + ("push 9",), answer_of("Ok", inResponseTo=NAMES_3_NOT_THERE), [(15, 0, 0)]),
     (TO_UP + ("push 9",), answer_of("Ok", inResponseTo=Value(1, 0, 1, 0, 3)), [(15, 0, 0)]),
@@ -99,6 +126,7 @@ class Audit(Replay):
 
     def __init__(self):
         super().__init__()
+        self.site_made = None
         self.sent_at = {}  # the open pushes by number: the clock at each sending
 
     def call(self, what, *given):
@@ -111,6 +139,10 @@ class Audit(Replay):
         if events or what != "tick":
             self.check_session(events)
         return refusal, events
+
+    def end_settings(self):
+        super().end_settings()
+        self.site_made = self.session.site
 
     def account(self, event):
         clock, number = self.session.clock, event.number
@@ -128,6 +160,7 @@ class Audit(Replay):
     def check_session(self, events):
         session = self.session
         numbers = [push.number for push in session.pushes]
+        equal(session.site, self.site_made, "what was chosen at the making")
         equal(numbers, list(self.sent_at), "the open pushes, in order of acceptance")
         if len(events) > MOST_PUSHES + 2 or len(numbers) > MOST_PUSHES or numbers and session.state != UP:
             raise Difference("%d events, %d pushes open in %s" % (len(events), len(numbers), session.state))
@@ -143,13 +176,20 @@ def test_promises():
         Audit().run(script_numbered(SEED, number))
 
 
+def replay_with(mistake):
+    """A replay of the wrong session; the replay itself where that is what is wrong."""
+    if issubclass(mistake, Replay):
+        return mistake()
+    run = Replay()
+    run.session_type = mistake
+    return run
+
+
 def is_noticed(mistake, scripts):
-    """Whether the wrong session makes a difference on one of the scripts; to stumble is one too."""
+    """Whether the mistake makes a difference on one of the scripts; to stumble is one too."""
     for script, expected in scripts:
-        run = Replay()
-        run.session_type = mistake
         try:
-            if run.run(script) != expected:
+            if replay_with(mistake).run(script) != expected:
                 return True
         except (LookupError, ValueError, StopIteration):
             return True
@@ -162,7 +202,7 @@ def test_noticed(mistake, scripts):
 
 
 def short_by_hand():
-    for _, script, expected in SESSION_BY_HAND + REPLAY_BY_HAND:
+    for _, script, expected in SCRIPTS_BY_HAND:
         if len(script) < SHORT_SCRIPT and b"tick 1000000" not in script:
             yield script, expected
 
@@ -184,17 +224,20 @@ def test_sightings_are_told_apart():
 
 
 def direct_tests():
-    """What no script can show."""
+    """What no script can show, or none alone."""
     for state in STATES:
         yield "a short event list in %s" % state, lambda state=state: test_short_list(state)
     yield "refused making", test_refused_making
+    yield "making without conduct", test_making_without_conduct
     yield "stop keeps", test_stop_keeps
+    yield "nothing else differs", test_nothing_else_differs
     yield "answers handed in", test_handed_in
 
 
 def all_self_tests(vector_lines):
     """Names and calls of all self-tests."""
     yield from direct_tests()
+    yield from captured_tests()
     yield "promises", test_promises
     yield "sightings", test_sightings_are_told_apart
     by_hand, by_chance, by_vectors = list(short_by_hand()), list(random_scripts()), list(scripts_of(vector_lines))

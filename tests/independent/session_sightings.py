@@ -4,15 +4,29 @@ import collections
 from typing import NamedTuple, Optional, Tuple
 
 from reader_answer import KINDS, kind_name
+from replay_examples import NO_CONDUCTS
 from replay_script import LONGEST_LINE, Replay
 from session import (ACKNOWLEDGED, ADVISED, ADVISORY_ARRIVED, CONFIRMING, CONNECT, DISCONNECT, FITS, GREATEST_NUMBER,
-                     LINKED, LOST, MOST_PUSHES, OPENING, READER_REFUSALS, SEND_ADVISORY, SEND_RESPONSE,
-                     SEND_RESPONSE_AGAIN, SEND_SESSION_OK, STATES, TAKE_A_NUMBER, TIMED_OUT, UNREADABLE, UP,
-                     meaning_of, value_of)
+                     LINKED, LOST, MOST_PUSHES, OLD, OPENING, READER_REFUSALS, REDUNDANT_SESSION, SEND_ADVISORY,
+                     SEND_RESPONSE, SEND_RESPONSE_AGAIN, SEND_SESSION_OK, STATES, TAKE_A_NUMBER, TIMED_OUT, UNREADABLE,
+                     UP, meaning_of, value_of)
 
 CLOSINGS = {ACKNOWLEDGED: "acknowledged", ADVISED: "advised", TIMED_OUT: "timed out", LOST: "lost"}
 ENDED_BY = {"tick": "the timer", "lost": "lost", "stop": "stop"}
 PUSH_NAMES = {SEND_RESPONSE: "Response", SEND_ADVISORY: "Advisory push"}
+
+# How a session came by its conduct.
+UNDER_OLD, UNDER_NEW_SAID, UNDER_NEW_BY_DEFAULT = UNDER = "under old", "under new said", "under new by default"
+OPENED_BY_REDUNDANT = "opened by RedundantSession " + UNDER_OLD
+OF_CONDUCT = (
+    [OPENED_BY_REDUNDANT]
+    + ["RedundantSession refused " + under for under in (UNDER_NEW_SAID, UNDER_NEW_BY_DEFAULT)]
+    + ["RedundantSession out of place in %s %s" % (state, under) for state in (CONFIRMING, UP) for under in UNDER]
+    + ["%s %s" % (what, under) for under in UNDER for what in (
+        "RedundantSession in Opening again", "RedundantSession in Opening after a lost link")]
+    + ["conduct given twice", "conduct given otherwise by a later line", "conduct behind interval",
+       "interval behind conduct", "conduct among the calls", "bad conduct line",
+       "bad conduct line that ends the settings", "refusal 4 with a conduct said"])
 
 # Everything that has to come up.
 TO_SEE = (
@@ -30,9 +44,10 @@ TO_SEE = (
        "resent by time", "resent by UnreadableMessage", "acknowledged after a resend", "timed out after a resend by "
        "UnreadableMessage", "advised after a resend by UnreadableMessage", "UnreadableMessage after a resend by time",
        "UnreadableMessage for an Advisory push", "heartbeat answered by Ok", "heartbeat answered by Advisory",
-       "opened by RedundantSession", "opening refused", "Advisory for the SessionOk in Confirming", "connected again",
-       "bad line", "line too long", "empty line", "setting given twice", "setting among the calls", "last set",
-       "last line without LF"])
+       "opening refused", "Advisory for the SessionOk in Confirming", "connected again", "bad line", "line too long",
+       "empty line", "interval given twice", "interval given otherwise by a later line", "interval among the calls",
+       "last set", "last line without LF"]
+    + OF_CONDUCT)
 
 
 class Before(NamedTuple):
@@ -54,7 +69,8 @@ class WatchedReplay(Replay):
     def __init__(self):
         super().__init__()
         self.seen = collections.Counter()
-        self.settings = 0
+        self.said = []  # the settings, as they were given
+        self.link_was_lost = self.met_redundant = False
         self.names = {}  # what the open pushes are, by number
         self.resent_by = {}  # the open pushes that were sent again, by number: the call that did it
 
@@ -65,6 +81,7 @@ class WatchedReplay(Replay):
         refusal, events = super().call(what, *given)
         self.seen["state " + session.state] += 1
         self.seen["%s in %s" % (what, before.state)] += 1
+        self.link_was_lost |= what == "lost" and before.state in LINKED
         if refusal:
             self.seen["refusal %d" % refusal] += 1
         elif events or what != "tick":
@@ -134,14 +151,36 @@ class WatchedReplay(Replay):
             self.see("heartbeat answered by Advisory")
         if codes == [DISCONNECT]:
             self.see({OPENING: "opening refused", CONFIRMING: "Advisory for the SessionOk in Confirming"}[before.state])
-        if codes == [SEND_SESSION_OK] and meaning_of(value_of(answer, "status")) == 2:
-            self.see("opened by RedundantSession")
+        if kind_name(answer.kind) == "SessionOpenResponse" and meaning_of(
+                value_of(answer, "status")) == REDUNDANT_SESSION:
+            self.see_redundant(before.state, codes)
+
+    def see_redundant(self, state, codes):
+        if self.session.site.conduct == OLD:
+            under = UNDER_OLD
+        else:
+            under = UNDER_NEW_SAID if self.said_of(b"conduct") else UNDER_NEW_BY_DEFAULT
+        if state != OPENING:
+            self.see("RedundantSession out of place in %s %s" % (state, under))
+            return
+        what = {SEND_SESSION_OK: "opened by RedundantSession", DISCONNECT: "RedundantSession refused"}[codes[0]]
+        self.see("%s %s" % (what, under))
+        if self.met_redundant:
+            self.see("RedundantSession in Opening again " + under)
+        if self.link_was_lost:
+            self.see("RedundantSession in Opening after a lost link " + under)
+        self.met_redundant = True
+
+    def said_of(self, word):
+        return [line for line in self.said if line.startswith(word)]
 
     def take_call(self, line):
         taken = super().take_call(line)
         self.seen["last set"] += taken and line.startswith(b"last ")
         self.seen["bad line"] += not taken
-        self.seen["setting among the calls"] += line.startswith(b"interval ")
+        self.seen["interval among the calls"] += line.startswith(b"interval ")
+        self.seen["conduct among the calls"] += line in (b"conduct new", b"conduct old")
+        self.seen["bad conduct line"] += line in NO_CONDUCTS
         return taken
 
     def take_message(self, message):
@@ -166,14 +205,24 @@ class WatchedReplay(Replay):
 
     def take_setting(self, line):
         is_setting = super().take_setting(line)
-        self.settings += is_setting
-        self.seen["setting given twice"] += self.settings == 2
+        if is_setting:
+            self.see_setting(line)
+        self.seen["bad conduct line that ends the settings"] += line in NO_CONDUCTS
         return is_setting
+
+    def see_setting(self, line):
+        name, other = ("conduct", "interval") if line.startswith(b"conduct") else ("interval", "conduct")
+        given = self.said_of(name.encode())
+        self.seen[name + " given twice"] += len(given) == 1
+        self.seen[name + " given otherwise by a later line"] += bool(given) and given[-1] != line
+        self.seen["%s behind %s" % (name, other)] += bool(self.said_of(other.encode()))
+        self.said.append(line)
 
     def end_settings(self):
         super().end_settings()
         if self.session.refusal:
             self.see("refusal %d" % self.session.refusal)
+            self.seen["refusal %d with a conduct said" % self.session.refusal] += bool(self.said_of(b"conduct"))
 
     def run(self, script):
         self.seen["last line without LF"] += bool(script) and not script.endswith(b"\n")

@@ -17,7 +17,7 @@ use Rattle.message.specs.Messages.{kindNumber}
 use Rattle.conduct.specs.Codes.{advisoryArrived}
 use Rattle.conduct.specs.Session.{Session, isLinked}
 use Rattle.conduct.specs.Table.{actionAt, actionOf}
-use Rattle.conduct.specs.Rules.{goes, note, answered, statusBy, adviceBy, namedBy, acknowledged, advisedAbout, nextNumber, acted}
+use Rattle.conduct.specs.Rules.{goes, note, answered, statusBy, countedIn, adviceBy, namedBy, acknowledged, advisedAbout, nextNumber, acted}
 use Rattle.conduct.specs.History.{saysUnreadable}
 use Rattle.conduct.specs.declared.State.{State}
 use Rattle.conduct.specs.declared.State.the-variants.{Waiting, Connecting, Opening, Confirming, Up, Stopped}
@@ -58,14 +58,14 @@ module _ (s : Session) (m : Message) where
   -- what the table has to do with the kind and the state
   abbrev pub Placed : Action → Type 0
   Placed actions.OutOfPlace = Unit {0}
-  Placed actions.Answer = (age : ℕ) × (s .state ≡ Opening age)
+  Placed actions.Answer = (age : ℕ) × (s .state ≡ Opening age) × (m .kind ≡ kinds.SessionOpenResponse)
   Placed actions.Acknowledge = m .kind ≡ kinds.Ok
   Placed actions.Advise = m .kind ≡ kinds.Advisory
   Placed actions.Request = Unit {0}
 
   pub acted-onward : (action : Action) → Placed action → From s m (s .state) (acted s m action)
   acted-onward actions.OutOfPlace p = same refl refl
-  acted-onward actions.Answer p = answered-onward (p .0) (statusBy (m .status)) (p .1)
+  acted-onward actions.Answer p = answered-onward (p .0) (countedIn (s .site .conduct) (statusBy (m .status))) (p .1)
   acted-onward actions.Acknowledge p = acknowledged-onward p
   acted-onward actions.Advise p = advised-onward p
   acted-onward actions.Request p = same refl refl
@@ -75,7 +75,7 @@ module _ (s : Session) (m : Message) where
       → ((age : ℕ) → s .state ≡ Opening age → Placed (actionAt 0 (kindNumber kind - 1)))
       × Placed (actionAt 1 (kindNumber kind - 1)) × Placed (actionAt 2 (kindNumber kind - 1))
   placed-in kinds.SessionOpenRequest e = (λ age f. tt, tt, tt)
-  placed-in kinds.SessionOpenResponse e = (λ age f. (age, f), tt, tt)
+  placed-in kinds.SessionOpenResponse e = (λ age f. (age, f, e), tt, tt)
   placed-in kinds.SessionOk e = (λ age f. tt, tt, tt)
   placed-in kinds.Ok e = (λ age f. tt, e, e)
   placed-in kinds.Advisory e = (λ age f. tt, e, e)

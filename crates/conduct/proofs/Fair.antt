@@ -25,7 +25,7 @@ use Rattle.conduct.specs.Pushes.{opened}
 use Rattle.conduct.specs.Session.{Session, isConnecting, isUp, isStopped, awaitedNumbers, sessionOkNumbers, pushNumbers, held}
 use Rattle.conduct.specs.Session.{fits, roomFor, refusalOf}
 use Rattle.conduct.specs.Table.{actionOf}
-use Rattle.conduct.specs.Rules.{goes, waits, leaves, tick, stop, statusBy, namedBy, adviceBy, answered, okNaming, acknowledged}
+use Rattle.conduct.specs.Rules.{goes, waits, leaves, tick, stop, statusBy, countedIn, namedBy, adviceBy, answered, okNaming, acknowledged}
 use Rattle.conduct.specs.Rules.{advisoryNaming, advisedAbout, nextNumber, acted, moveOf}
 use Rattle.conduct.specs.Step.{opens, lastAfterParting}
 use Rattle.conduct.specs.Sound.{soundState}
@@ -202,7 +202,7 @@ module _ (s : Session) where
 
     acted-fair : (m : Message) (action : Action) → (action ≡ actions.Answer → isUp (s .state) ≡ false) → Fair s (acted s m action)
     acted-fair m actions.OutOfPlace h = same (s .state) refl _ _ refl
-    acted-fair m actions.Answer h = answered-fair (statusBy (m .status)) (h refl)
+    acted-fair m actions.Answer h = answered-fair (countedIn (s .site .conduct) (statusBy (m .status))) (h refl)
     acted-fair m actions.Acknowledge h = acknowledged-fair (namedBy (m .«in_response_to»))
     acted-fair m actions.Advise h =
         cond-both (Fair s) (m .«in_relation_to» .there)

@@ -183,7 +183,7 @@ every-interval s cs n ok e unsent-so-far =
 
 -- ---- which no call changes
 
-site-stays : (s : Session) (c : Call) → step s c .next .site ≡ s .site
+pub site-stays : (s : Session) (c : Call) → step s c .next .site ≡ s .site
 site-stays s c = by-turns (λ (k : ℕ) (r : Answered). r .next .site ≡ s .site) s c (λ k. refl) (λ m o. refl) (λ e. refl)
 
 pub site-kept : SiteKept

@@ -57,3 +57,6 @@ pub mod MakingAtWork
 pub mod RefusalsAtWork
 pub mod SoundAtWork
 pub mod OneAnswer
+pub mod OpenResponses
+pub mod CountedAs
+pub mod Conducts

@@ -23,7 +23,7 @@ use Rattle.conduct.specs.Codes as codes
 use Rattle.conduct.specs.Session.{Session, isConnecting, isUp, sessionOkNumbers, pushNumbers, awaitedNumbers, refusalOf}
 use Rattle.message.specs.Messages.{kindNumber}
 use Rattle.conduct.specs.Table.{actionAt, actionOf}
-use Rattle.conduct.specs.Rules.{leaves, note, tick, connected, stop, statusBy, adviceBy, namedBy, nextNumber, acted, moveOf}
+use Rattle.conduct.specs.Rules.{leaves, note, tick, connected, stop, statusBy, countedIn, adviceBy, namedBy, nextNumber, acted, moveOf}
 use Rattle.conduct.specs.Rules.{answered, matchesNothing, okNaming, acknowledged, advises, advisoryNaming, advisedAbout}
 use Rattle.conduct.specs.Step.{partingNotes, eventsBy, movedBy, Answered, answer, step}
 use Rattle.conduct.specs.declared.Awaited.the-variants as awaited
@@ -198,7 +198,7 @@ answered-usual state next statuses.Other h = departs (Waiting 300) partings.Disc
 acted-usual : (s : Session) (m : Message) (action : Action)
     → (isAnswer action ≡ true → (isUp (s .state) ≡ false) × (sessionOkNumbers (s .state) ≡ [])) → Usual (s .state) (acted s m action)
 acted-usual s m actions.OutOfPlace h = in-place (s .state) sweeps.Still (note codes.outOfPlace) refl refl refl
-acted-usual s m actions.Answer h = answered-usual (s .state) (nextNumber s) (statusBy (m .status)) (h refl)
+acted-usual s m actions.Answer h = answered-usual (s .state) (nextNumber s) (countedIn (s .site .conduct) (statusBy (m .status))) (h refl)
 acted-usual s m actions.Acknowledge h = acknowledged-usual s (namedBy (m .«in_response_to»))
 acted-usual s m actions.Advise h =
     cond-both (Usual (s .state)) (m .«in_relation_to» .there) (about-usual s (adviceBy (m .«advisory_type»)) (m .«in_relation_to» .number))

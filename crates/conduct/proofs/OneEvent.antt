@@ -26,7 +26,7 @@ use Rattle.conduct.specs.Pushes.{eventOf, sentOnce, againOr, toldBy, tel
 use Rattle.conduct.specs.Session.{Session, isUp, awaitedNumbers, sessionOkNumbers, pushNumbers}
 use Rattle.conduct.specs.Table.{actionOf}
 use Rattle.conduct.specs.Rules as rules
-use Rattle.conduct.specs.Rules.{goes, touches, leaves, namedBy, statusBy, adviceBy, nextNumber, acted}
+use Rattle.conduct.specs.Rules.{goes, touches, leaves, namedBy, statusBy, countedIn, adviceBy, nextNumber, acted}
 use Rattle.conduct.specs.Rules.{answered, okNaming, advises, advisoryNaming, advisedAbout}
 use Rattle.conduct.specs.Step.{eventsBy, Answered, answer, step}
 use Rattle.conduct.specs.History.{names, namesNumber, callBearing}
@@ -216,7 +216,7 @@ module _ (s : Session) (m : Message) (g : Good s) where
   acted-one : (action : Action) → actionOf (s .state) (m .kind) ≡ action → One s (acted s m action) ⊎ Unheard s m (acted s m action)
   acted-one actions.OutOfPlace a = inl (goes-one s (s .state) codes.outOfPlace 0)
   acted-one actions.Answer a =
-      inl (answered-one s (g .quiet (answer-where (s .state) (m .kind) (ap isAnswer a) .0)) (nextNumber s) (statusBy (m .status)))
+      inl (answered-one s (g .quiet (answer-where (s .state) (m .kind) (ap isAnswer a) .0)) (nextNumber s) (countedIn (s .site .conduct) (statusBy (m .status))))
   acted-one actions.Acknowledge a = acknowledged-one a (namedBy (m .«in_response_to»)) refl
   acted-one actions.Advise a =
       inl (cond-both (One s) (m .«in_relation_to» .there)

@@ -17,15 +17,16 @@ use Rattle.conduct.specs.declared.State.{State}
 use Rattle.conduct.specs.declared.State.the-variants.{Waiting, Connecting, Opening, Confirming, Up, Stopped}
 use Rattle.conduct.specs.declared.Push.{Push}
 use Rattle.conduct.specs.declared.Pushed.{Pushed}
+use Rattle.conduct.specs.declared.Conduct.the-variants.{New}
 use Rattle.conduct.specs.declared.Pushed.the-variants.{Response, Advisory}
 
 -- ---- making
 
 abbrev pub made : ℕ → Made
-made interval = record { refusal = 0; session = record { site = record { interval = interval }; state = Waiting 1; pushes = []; last = 0 } }
+made interval = record { refusal = 0; session = record { site = record { interval = interval; conduct = New }; state = Waiting 1; pushes = []; last = 0 } }
 
 abbrev pub refusedMaking : Made
-refusedMaking = record { refusal = 4; session = record { site = record { interval = 21 }; state = Stopped; pushes = []; last = 0 } }
+refusedMaking = record { refusal = 4; session = record { site = record { interval = 21; conduct = New }; state = Stopped; pushes = []; last = 0 } }
 
 abbrev pub MakingAtWork : Type 0
 MakingAtWork =

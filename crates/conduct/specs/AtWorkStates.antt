@@ -4,7 +4,8 @@ use mathlib.Core.Path.{_≡_}
 use mathlib.Core.List.{[], _∷_, _++_, map}
 use Prim.Native.Nat.{ℕ}
 use Rattle.message.specs.declared.Kind.the-variants as kinds
-use Rattle.conduct.specs.Session.{Session, usual, fresh}
+use Rattle.conduct.specs.Session.{Session, usual, inConduct, fresh}
+use Rattle.conduct.specs.declared.Conduct.the-variants.{Old}
 use Rattle.conduct.specs.History.{sessionAfter}
 use Rattle.conduct.specs.declared.State.the-variants.{Stopped}
 use Rattle.conduct.specs.Scripts.{ticking, connected, lost, stop, push}
@@ -33,7 +34,8 @@ abbrev pub OpeningAtWork : Type 0
 OpeningAtWork =
     AllAsDue
     (inOpening 21 (answerOk ∷ []) (event 3 3 2 0 ∷ []) 4 0
-    ∷ inOpening 21 (answerRedundantSession ∷ []) (event 3 3 2 0 ∷ []) 4 0
+    ∷ inOpening 21 (answerRedundantSession ∷ ticking 300 ∷ []) (event 3 7 0 0 ∷ event 303 1 0 0 ∷ []) 2 0
+    ∷ example (fresh (inConduct Old (usual 21))) (ticking 1 ∷ connected ∷ answerRedundantSession ∷ []) (event 1 1 0 0 ∷ event 2 2 1 0 ∷ event 3 3 2 0 ∷ []) 4 0
     ∷  -- any other status, or none, and then 300 ticks
     inOpening 21 (answerOther ∷ ticking 300 ∷ []) (event 3 7 0 0 ∷ event 303 1 0 0 ∷ []) 2 0
     ∷ inOpening 21 (bare kinds.SessionOpenResponse ∷ ticking 299 ∷ []) (event 3 7 0 0 ∷ []) 1 0
@@ -67,7 +69,8 @@ ConfirmingAtWork =
     ∷ inConfirming 21 (ticking 320 ∷ []) (event 23 19 3 0 ∷ event 23 7 0 0 ∷ event 323 1 0 0 ∷ []) 2 0
     ∷  -- they are counted from the SessionOk, after either status, and what arrives does not move them
     inOpening 21 (ticking 19 ∷ answerOk ∷ ticking 19 ∷ []) (event 22 3 2 0 ∷ []) 4 0
-    ∷ inOpening 21 (ticking 19 ∷ answerRedundantSession ∷ ticking 20 ∷ []) (event 22 3 2 0 ∷ event 42 19 3 0 ∷ event 42 7 0 0 ∷ []) 1 0
+    ∷ example (fresh (inConduct Old (usual 21))) (ticking 1 ∷ connected ∷ ticking 19 ∷ answerRedundantSession ∷ ticking 20 ∷ [])
+    (event 1 1 0 0 ∷ event 2 2 1 0 ∷ event 22 3 2 0 ∷ event 42 19 3 0 ∷ event 42 7 0 0 ∷ []) 1 0
     ∷ inConfirming 21 (ticking 10 ∷ ok 1 ∷ advisory 1 ∷ advisoryAlone ∷ bare kinds.Request ∷ unreadable 13 ∷ ticking 10 ∷ [])
     (event 14 15 0 0
     ∷ event 15 15 0 0
@@ -217,7 +220,7 @@ EndingsAtWork =
     ∷ []) 6 0
     ∷ [])
 
--- what is left of a session that was stopped: its interval, and the last number taken
+-- what is left of a session that was stopped: what it was made with, and the last number taken
 abbrev pub stoppedWith : ℕ → Session
 stoppedWith last = record { site = usual 30; state = Stopped; pushes = []; last = last }
 

@@ -23,3 +23,4 @@ pub mod AtWorkPushes
 pub mod AtWorkMessages
 pub mod AtWorkNumbers
 pub mod AtWorkRefusals
+pub mod Conducts

@@ -24,6 +24,8 @@ use Rattle.conduct.specs.declared.Call.{Call}
 use Rattle.conduct.specs.declared.Call.the-variants as calls
 use Rattle.conduct.specs.declared.Action.{Action}
 use Rattle.conduct.specs.declared.Action.the-variants as actions
+use Rattle.conduct.specs.declared.Conduct.{Conduct}
+use Rattle.conduct.specs.declared.Conduct.the-variants as conducts
 use Rattle.conduct.specs.declared.Sweep.{Sweep}
 use Rattle.conduct.specs.declared.Sweep.the-variants as sweeps
 use Rattle.conduct.specs.declared.Parting.{Parting}
@@ -103,6 +105,13 @@ answered next statuses.Ok = goes (Confirming next 0) (note codes.sendSessionOk)
 answered next statuses.RedundantSession = goes (Confirming next 0) (note codes.sendSessionOk)
 answered next statuses.Other = waits partings.Disconnect
 
+-- as which status one counts (document 02, M-110): in the new conduct RedundantSession is like any unknown one
+abbrev pub countedIn : Conduct → Status → Status
+countedIn conducts.New statuses.Ok = statuses.Ok
+countedIn conducts.New statuses.RedundantSession = statuses.Other
+countedIn conducts.New statuses.Other = statuses.Other
+countedIn conducts.Old status = status
+
 -- ---- Oks and Advisories, by the number that they name and what is open
 
 -- naming nothing open
@@ -155,7 +164,7 @@ nextNumber s = nextFree (held s) (s .last)
 
 abbrev pub acted : Session → Message → Action → Move
 acted s m actions.OutOfPlace = goes (s .state) (note codes.outOfPlace)
-acted s m actions.Answer = answered (nextNumber s) (statusBy (m .status))
+acted s m actions.Answer = answered (nextNumber s) (countedIn (s .site .conduct) (statusBy (m .status)))
 acted s m actions.Acknowledge = acknowledged s (namedBy (m .«in_response_to»))
 acted s m actions.Advise = advised s m
 acted s m actions.Request = goes (s .state) (note codes.requestArrived)

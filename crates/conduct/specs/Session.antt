@@ -8,6 +8,8 @@ use Rattle.conduct.specs.declared.Awaited.{Awaited}
 use Rattle.conduct.specs.declared.Awaited.the-variants as awaited
 use Rattle.conduct.specs.declared.State.{State}
 use Rattle.conduct.specs.declared.State.the-variants.{Waiting, Connecting, Opening, Confirming, Up, Stopped}
+use Rattle.conduct.specs.declared.Conduct.{Conduct}
+use Rattle.conduct.specs.declared.Conduct.the-variants.{New}
 use Rattle.conduct.specs.declared.Site.{Site}
 use Rattle.conduct.specs.declared.Push.{Push}
 use Rattle.conduct.specs.declared.Call.{Call}
@@ -22,9 +24,16 @@ pub record Session : Type 0 where
   -- the last number taken
   pub last : ℕ
 
--- a site with so many ticks from one SessionOk to the next
+-- what is meant where only the ticks from one SessionOk to the next are named: the new conduct
 abbrev pub usual : ℕ → Site
-usual interval = record { interval = interval }
+usual interval = record { interval = interval; conduct = New }
+
+-- a site with another interval, or another conduct
+abbrev pub atInterval : ℕ → Site → Site
+atInterval interval site = record { interval = interval; conduct = site .conduct }
+
+abbrev pub inConduct : Conduct → Site → Site
+inConduct conduct site = record { interval = site .interval; conduct = conduct }
 
 -- Waiting, one tick left, and no number taken: so the first is 1
 abbrev pub fresh : Site → Session

@@ -54,10 +54,17 @@ pub struct Push {
     pub age: u32,
 }
 
+// How a SessionOpenResponse with the status RedundantSession counts: like one with an unknown status or, in the old conduct, with Ok.
+pub enum Conduct {
+    New,
+    Old,
+}
+
 // What a session is made with.
 pub struct Site {
     // The ticks from one SessionOk to the next.
     pub interval: u32,
+    pub conduct: Conduct,
 }
 
 pub struct Event {

@@ -1,6 +1,5 @@
 // Rounds of one call of the session with 32 pushes open, for bench/run to time: standard input says `tick N` or `ok N`. It prints how many pushes are open in the end.
 use conduct::Awaited;
-use conduct::Site;
 use conduct::State;
 use libc::STDIN_FILENO;
 use libc::STDOUT_FILENO;
@@ -57,7 +56,7 @@ fn ok_naming(number: u32) -> Message {
 
 // A session in Up with 32 pushes, numbered from 1 on.
 fn full() -> Session {
-    let site = Site { interval: 6000 };
+    let site = session::usual(6000);
     let made = session::make(site);
     let fresh = made.session;
     let pushes = fresh.pushes;

@@ -14,7 +14,7 @@ use Rattle.message.specs.Values.{numberFlag, numberNamed, decimalOf}
 use Rattle.message.specs.Words.{codes}
 use Rattle.replay.specs.declared.script.Line.{Line}
 use Rattle.replay.specs.declared.script.Line.the-variants as lines
-use Rattle.replay.specs.Script.{isWord, begins, behind, orElse, ticksOf, isDecimal, numberedOf, lineOf, bytesOfWord}
+use Rattle.replay.specs.Script.{isWord, begins, behind, orElse, ticksOf, isDecimal, anInterval, numberedOf, wordedOf, lineOf, bytesOfWord}
 
 module _ {x y : Number} {flag : ℕ} (is : x ≡ y) (flagged : flag ≡ numberFlag x) (line : ℕ → Line) (other : Line) where
   pub a-number : {named : ℕ} → flag ≡ 1 → named ≡ numberNamed x → line named ≡ orElse y line other
@@ -50,7 +50,7 @@ numbered-short : (line : List ℕ) → bytesOfWord (numberedOf line) ≤ 0
 unfolding numberedOf
 numbered-short line =
     cond-cases Short (begins (codes "interval ") line)
-    (λ _. by-number (decimalOf (drop 9 line)) _ (cond-cases Short (isDecimal (drop 9 line)) (λ _. zero-le) (λ _. zero-le)) lines.Interval
+    (λ _. by-number (decimalOf (drop 9 line)) _ (cond-cases Short (isDecimal (drop 9 line)) (λ _. zero-le) (λ _. zero-le)) anInterval
     (λ n. zero-le))
     (λ _. by-number (behind (codes "tick ") line) _
     (by-number (behind (codes "push ") line) _
@@ -65,6 +65,15 @@ numbered-short line =
     Short : Line → Type 0
     Short l = bytesOfWord l ≤ 0
 
+worded-short : (line : List ℕ) → bytesOfWord (wordedOf line) ≤ 0
+unfolding wordedOf
+worded-short line =
+    cond-cases Short (isWord (codes "conduct new") line) (λ _. zero-le)
+    (λ _. cond-cases Short (isWord (codes "conduct old") line) (λ _. zero-le) (λ _. numbered-short line))
+  where
+    Short : Line → Type 0
+    Short l = bytesOfWord l ≤ 0
+
 pub word-within : (line : List ℕ) → bytesOfWord (lineOf line) ≤ length line
 unfolding lineOf
 word-within line =
@@ -74,7 +83,7 @@ word-within line =
     (λ _. cond-cases Within (isWord (codes "lost") line) (λ _. zero-le)
     (λ _. cond-cases Within (isWord (codes "stop") line) (λ _. zero-le)
     (λ _. cond-cases Within (begins (codes "message ") line) (λ is. begins-long (codes "message ") line is)
-    (λ _. omega (arith, numbered-short line)))))))
+    (λ _. omega (arith, worded-short line)))))))
   where
     Within : Line → Type 0
     Within l = bytesOfWord l ≤ length line

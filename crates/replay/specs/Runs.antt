@@ -9,12 +9,15 @@ use Rattle.message.specs.Limits.{linkLimits}
 use Rattle.message.specs.Messages.{messageOf}
 use Rattle.conduct.specs.declared.Call.{Call}
 use Rattle.conduct.specs.declared.Call.the-variants as calls
-use Rattle.conduct.specs.Session.{usual}
+use Rattle.conduct.specs.declared.Site.{Site}
+use Rattle.conduct.specs.Session.{usual, atInterval, inConduct}
 use Rattle.session.specs.declared.Told.{Told}
 use Rattle.session.specs.Record.{madeOf, withLast}
 use Rattle.session.specs.Answers.{callOf, told}
 use Rattle.replay.specs.declared.script.Line.{Line}
 use Rattle.replay.specs.declared.script.Line.the-variants as lines
+use Rattle.replay.specs.declared.script.Setting.{Setting}
+use Rattle.replay.specs.declared.script.Setting.the-variants as settings
 use Rattle.replay.specs.declared.runs.Phase.{Phase}
 use Rattle.replay.specs.declared.runs.Phase.the-variants.{Settling, Running, Refused}
 use Rattle.replay.specs.declared.runs.Run.{Run}
@@ -26,7 +29,7 @@ use Rattle.replay.specs.Lines.{answerLines, badLine}
 abbrev pub following : ℕ → ℕ
 following n = cond (ltb n 18446744073709551615) (n + 1) n
 
--- settings first; the interval is 100 where none is set
+-- settings first; the interval is 100 and the conduct the new one where none is set
 unfoldable pub freshRun : Run
 freshRun = record { phase = Settling; site = usual 100; session = madeOf (usual 100) .session; call = 1; line = 1 }
 
@@ -46,7 +49,7 @@ madeRun run =
 -- the first line that is neither empty nor a setting ends the settings
 abbrev pub endsSettings : Line → Bool
 endsSettings lines.Nothing = false
-endsSettings (lines.Interval interval) = false
+endsSettings (lines.Set setting) = false
 endsSettings (lines.Ticks count) = true
 endsSettings (lines.Other call) = true
 endsSettings lines.Message = true
@@ -67,8 +70,12 @@ afterCall run t = record { phase = run .phase; site = run .site; session = t .ne
 unfoldable pub nextLine : Run → Run
 nextLine run = record { phase = run .phase; site = run .site; session = run .session; call = run .call; line = following (run .line) }
 
-unfoldable pub settled : Run → ℕ → Run
-settled run interval = record { phase = run .phase; site = usual interval; session = run .session; call = run .call; line = run .line }
+abbrev pub siteWith : Setting → Site → Site
+siteWith (settings.Interval interval) site = atInterval interval site
+siteWith (settings.Conduct conduct) site = inConduct conduct site
+
+unfoldable pub settled : Run → Setting → Run
+settled run setting = record { phase = run .phase; site = siteWith setting (run .site); session = run .session; call = run .call; line = run .line }
 
 unfoldable pub renumbered : Run → ℕ → Run
 renumbered run last =
@@ -101,7 +108,7 @@ ticked (suc count) run = andThen (called run calls.Tick) (ticked count)
 -- the bytes of a message stand behind the 8 of the word and its space
 unfoldable pub ran : Run → Line → List ℕ → Done
 ran run lines.Nothing bytes = silent run
-ran run (lines.Interval interval) bytes = bad run
+ran run (lines.Set setting) bytes = bad run
 ran run (lines.Ticks count) bytes = ticked count run
 ran run (lines.Other call) bytes = called run call
 ran run lines.Message bytes = called run (callOf (messageOf classOf linkLimits (drop 8 bytes)))
@@ -111,7 +118,7 @@ ran run lines.Bad bytes = bad run
 -- a line among the settings
 unfoldable pub set : Run → Line → Run
 set run lines.Nothing = run
-set run (lines.Interval interval) = settled run interval
+set run (lines.Set setting) = settled run setting
 set run (lines.Ticks count) = run
 set run (lines.Other call) = run
 set run lines.Message = run

@@ -12,9 +12,11 @@ use Rattle.message.specs.declared.Number.{Number}
 use Rattle.message.specs.declared.Number.the-variants.{Nothing, Names}
 use Rattle.conduct.specs.declared.Pushed.the-variants as pushed
 use Rattle.conduct.specs.declared.Call.the-variants as calls
+use Rattle.conduct.specs.declared.Conduct.the-variants.{New, Old}
 use Rattle.conduct.specs.Lists.{all}
 use Rattle.replay.specs.declared.script.Line.{Line}
 use Rattle.replay.specs.declared.script.Line.the-variants as lines
+use Rattle.replay.specs.declared.script.Setting.the-variants as settings
 
 -- the line is the word
 abbrev pub isWord : List ℕ → List ℕ → Bool
@@ -44,10 +46,13 @@ abbrev pub isDecimal : List ℕ → Bool
 isDecimal [] = false
 isDecimal (d ∷ digits) = not (leadingZero (d ∷ digits)) && all isDigit (d ∷ digits)
 
+abbrev pub anInterval : ℕ → Line
+anInterval n = lines.Set (settings.Interval n)
+
 -- a setting of the interval; one that is too long for 32 bits stands for the greatest number, which the making refuses as it would the
 -- other
 abbrev pub intervalOf : List ℕ → Line
-intervalOf text = orElse (decimalOf text) lines.Interval (cond (isDecimal text) (lines.Interval 4294967295) lines.Bad)
+intervalOf text = orElse (decimalOf text) anInterval (cond (isDecimal text) (anInterval 4294967295) lines.Bad)
 
 unfoldable pub numberedOf : List ℕ → Line
 numberedOf line =
@@ -58,6 +63,12 @@ numberedOf line =
     (orElse (behind (codes "unreadable ") line) (λ n. lines.Other (calls.Unreadable n))
     (orElse (behind (codes "last ") line) lines.Last lines.Bad)))))
 
+-- a setting that is words alone, or a word with a number
+unfoldable pub wordedOf : List ℕ → Line
+wordedOf line =
+    cond (isWord (codes "conduct new") line) (lines.Set (settings.Conduct New))
+    (cond (isWord (codes "conduct old") line) (lines.Set (settings.Conduct Old)) (numberedOf line))
+
 unfoldable pub lineOf : List ℕ → Line
 lineOf line =
     cond (eqb (length line) 0) lines.Nothing
@@ -65,12 +76,12 @@ lineOf line =
     (cond (isWord (codes "connected") line) (lines.Other calls.Connected)
     (cond (isWord (codes "lost") line) (lines.Other calls.Lost)
     (cond (isWord (codes "stop") line) (lines.Other calls.Stop)
-    (cond (begins (codes "message ") line) lines.Message (numberedOf line))))))
+    (cond (begins (codes "message ") line) lines.Message (wordedOf line))))))
 
 -- the bytes that a message has at least: the word `message` and its space
 abbrev pub bytesOfWord : Line → ℕ
 bytesOfWord lines.Nothing = 0
-bytesOfWord (lines.Interval interval) = 0
+bytesOfWord (lines.Set setting) = 0
 bytesOfWord (lines.Ticks count) = 0
 bytesOfWord (lines.Other call) = 0
 bytesOfWord lines.Message = 8

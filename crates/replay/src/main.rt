@@ -96,7 +96,7 @@ fn run_line(run: Run, line: Line, bytes: &[u8]) -> Run
     let session = run.session;
     match line {
         Line::Nothing => run,
-        Line::Interval(_) => write_bad(run),
+        Line::Set(_) => write_bad(run),
         Line::Ticks(count) => run_ticks(run, count),
         Line::Other(call) => run_call(run, session.told(call, PLACES)),
         Line::Message => run_call(run, session.hear(&bytes[MESSAGE_AT..], PLACES)),
@@ -111,7 +111,7 @@ fn set_line(run: Run, line: Line) -> Run
 {
     match line {
         Line::Nothing => run,
-        Line::Interval(interval) => runs::settled(run, interval),
+        Line::Set(setting) => runs::settled(run, setting),
         Line::Ticks(_) => run,
         Line::Other(_) => run,
         Line::Message => run,

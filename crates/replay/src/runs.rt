@@ -1,10 +1,11 @@
 // A run of a script: what is kept from one line to the next.
 use crate::script::Line;
+use crate::script::Setting;
 use conduct::Site;
 use session::Session;
 use session::Told;
 ghost use mathlib.Core.Path.{_≡_};
-ghost use Rattle.replay.specs.Runs.{following, freshRun, madeRun, endsSettings as Runs·endsSettings, readyFor, afterCall as Runs·afterCall, nextLine, settled as Runs·settled, renumbered as Runs·renumbered};
+ghost use Rattle.replay.specs.Runs.{following, freshRun, madeRun, endsSettings as Runs·endsSettings, readyFor, afterCall as Runs·afterCall, nextLine, siteWith, settled as Runs·settled, renumbered as Runs·renumbered};
 
 // Settings come first; then the session runs, or its making was refused.
 pub(crate) enum Phase {
@@ -35,7 +36,7 @@ fn next(number: u64) -> u64
 pub(crate) fn fresh() -> Run
     ensures { λ r. ⌜ r ≡ freshRun ⌝ }
 {
-    let site = Site { interval: 100 };
+    let site = session::usual(100);
     let made = session::make(site);
     let session = made.session;
     Run {
@@ -71,7 +72,7 @@ fn ends_settings(line: Line) -> bool
 {
     match line {
         Line::Nothing => false,
-        Line::Interval(_) => false,
+        Line::Set(_) => false,
         Line::Ticks(_) => true,
         Line::Other(_) => true,
         Line::Message => true,
@@ -122,14 +123,30 @@ pub(crate) fn next_line(run: Run) -> Run
     }
 }
 
-pub(crate) fn settled(run: Run, interval: u32) -> Run
-    ensures { λ r. ⌜ r ≡ Runs·settled run interval ⌝ }
+fn site_with(setting: Setting, site: Site) -> Site
+    ensures { λ r. ⌜ r ≡ siteWith setting site ⌝ }
+{
+    match setting {
+        Setting::Interval(interval) => {
+            let conduct = site.conduct;
+            Site { interval, conduct }
+        }
+        Setting::Conduct(conduct) => Site {
+            interval: site.interval,
+            conduct,
+        },
+    }
+}
+
+pub(crate) fn settled(run: Run, setting: Setting) -> Run
+    ensures { λ r. ⌜ r ≡ Runs·settled run setting ⌝ }
 {
     let phase = run.phase;
+    let site = run.site;
     let session = run.session;
     Run {
         phase,
-        site: Site { interval },
+        site: site_with(setting, site),
         session,
         call: run.call,
         line: run.line,

@@ -1,18 +1,25 @@
 // A line of a script, and what it stands for.
 use conduct::Call;
+use conduct::Conduct;
 use conduct::Pushed;
 use message::Number;
 ghost use mathlib.Core.Path.{_≡_};
 ghost use Prim.Native.Nat.{_≤_};
 ghost use lib.ListN.{length, drop};
 ghost use Rattle.conduct.specs.Lists.{all};
-ghost use Rattle.replay.specs.Script.{behind as Script·behind, isWord as Script·isWord, ticksOf, isDigit, isDecimal, intervalOf, numberedOf, lineOf};
+ghost use Rattle.replay.specs.Script.{behind as Script·behind, isWord as Script·isWord, ticksOf, isDigit, isDecimal, intervalOf, numberedOf, wordedOf, lineOf};
+
+// One of the things that a session is made with.
+pub(crate) enum Setting {
+    Interval(u32),
+    Conduct(Conduct),
+}
 
 // What a line stands for.
 pub(crate) enum Line {
     // An empty one.
     Nothing,
-    Interval(u32),
+    Set(Setting),
     Ticks(u32),
     Other(Call),
     // A message: its bytes are those behind the word and its space.
@@ -91,10 +98,10 @@ fn interval(line: &[u8]) -> Line
 {
     let number = texts::number(line, 9);
     if number.flag() == 1 {
-        return Line::Interval(number.named());
+        return Line::Set(Setting::Interval(number.named()));
     }
     if is_decimal(line, 9) {
-        return Line::Interval(u32::MAX);
+        return Line::Set(Setting::Interval(u32::MAX));
     }
     Line::Bad
 }
@@ -129,6 +136,19 @@ fn numbered(line: &[u8]) -> Line
     Line::Bad
 }
 
+// A setting that is words alone, or a word with a number.
+fn worded(line: &[u8]) -> Line
+    ensures { λ r. ⌜ r ≡ wordedOf (now (line .entry)) ⌝ }
+{
+    if is_word(line, b"conduct new") {
+        return Line::Set(Setting::Conduct(Conduct::New));
+    }
+    if is_word(line, b"conduct old") {
+        return Line::Set(Setting::Conduct(Conduct::Old));
+    }
+    numbered(line)
+}
+
 pub(crate) fn line_of(line: &[u8]) -> Line
     ensures { λ r. ⌜ r ≡ lineOf (now (line .entry)) ⌝ }
 {
@@ -150,5 +170,5 @@ pub(crate) fn line_of(line: &[u8]) -> Line
     if texts::begins(line, b"message ") {
         return Line::Message;
     }
-    numbered(line)
+    worded(line)
 }

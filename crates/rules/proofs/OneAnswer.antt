@@ -25,6 +25,7 @@ use Rattle.conduct.specs.declared.Parting.{Parting}
 use Rattle.conduct.specs.declared.Push.{Push}
 use Rattle.conduct.specs.declared.Pushed.{Pushed}
 use Rattle.conduct.specs.declared.Remark.{Remark}
+use Rattle.conduct.specs.declared.Conduct.{Conduct}
 use Rattle.conduct.specs.declared.State.{State}
 use Rattle.conduct.specs.declared.Sweep.{Sweep}
 
@@ -59,6 +60,9 @@ named-by-once value = one-answer
 
 pub status-by-once : (value : StatusValue) {r r′ : Status} → r ≡ Rules.statusBy value → r′ ≡ Rules.statusBy value → r ≡ r′
 status-by-once value = one-answer
+
+pub counted-in-once : (conduct : Conduct) (status : Status) {r r′ : Status} → r ≡ Rules.countedIn conduct status → r′ ≡ Rules.countedIn conduct status → r ≡ r′
+counted-in-once conduct status = one-answer
 
 pub advice-by-once : (value : TypeValue) {r r′ : Advice} → r ≡ Rules.adviceBy value → r′ ≡ Rules.adviceBy value → r ≡ r′
 advice-by-once value = one-answer

@@ -1,6 +1,7 @@
 // Moves: where a call leads, what it means for the pushes and what it says; those of a tick, of stop, and of a message that opens the session or names nothing.
 use crate::pushes::LAST_AGE;
 use conduct::Awaited;
+use conduct::Conduct;
 use conduct::Move;
 use conduct::Parting;
 use conduct::Remark;
@@ -10,6 +11,7 @@ use conduct::codes;
 use message::Status;
 ghost use mathlib.Core.Path.{_≡_};
 ghost use Rattle.conduct.specs.declared.Awaited.the-variants as awaiting;
+ghost use Rattle.conduct.specs.declared.Conduct.the-variants as conducts;
 ghost use Rattle.conduct.specs.declared.State.the-variants as states;
 ghost use Rattle.conduct.specs.Rules as Rules;
 
@@ -161,6 +163,26 @@ pub fn answered(next: u32, status: Status) -> Move
         Status::Ok => goes(confirming, sent),
         Status::RedundantSession => goes(confirming, sent),
         Status::Other => waits(Parting::Disconnect),
+    }
+}
+
+// As which status one counts in the new conduct: RedundantSession is like any unknown one.
+fn counted_in_new(status: Status) -> Status
+    ensures { λ r. ⌜ r ≡ Rules.countedIn conducts.New status ⌝ }
+{
+    match status {
+        Status::Ok => Status::Ok,
+        Status::RedundantSession => Status::Other,
+        Status::Other => Status::Other,
+    }
+}
+
+pub fn counted_in(conduct: Conduct, status: Status) -> Status
+    ensures { λ r. ⌜ r ≡ Rules.countedIn conduct status ⌝ }
+{
+    match conduct {
+        Conduct::New => counted_in_new(status),
+        Conduct::Old => status,
     }
 }
 

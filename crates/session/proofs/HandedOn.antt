@@ -50,17 +50,17 @@ use Rattle.session.proofs.Said.Laws as D′
 use Rattle.session.proofs.lent.give as give
 use Rattle.session.proofs.lent.give.Symbol.{name as #give}
 
-abbrev word : Ty
+abbrev pub word : Ty
 word = tyInt w64
 
-abbrev refTy : Lifetime → Ty
+abbrev pub refTy : Lifetime → Ty
 refTy ν = tyRef ν mut (pointee (R .written))
 
-abbrev listTy : Lifetime → Ty
+abbrev pub listTy : Lifetime → Ty
 listTy ν = sliceTy (refTy ν)
 
 -- the code
-abbrev ending : Body
+abbrev pub ending : Body
 ending =
     seq (assign (place 5 []) (rvOpd (copy (place 4 (field 2 ∷ [])))))
     (seq (assign (place 6 []) (rvOpd (copy (place 5 (field 0 ∷ [])))))

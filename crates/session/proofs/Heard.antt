@@ -20,7 +20,12 @@ use Rattle.message.specs.declared.Message.{Message}
 use Rattle.conduct.specs.History.{namesNumber, names, Bearing, adviceBearing, saysUnreadable, messageBearing, callBearing}
 use Rattle.conduct.specs.History.Bearing.{acknowledged, unreadableMessage, advised}
 use Rattle.session.specs.Answers.{callOf}
-use Rattle.session.specs.Heard.{bearingOf, Naming, OkNaming, AdvisoryNaming, OkByItsBytes, UnreadableByItsBytes, AdvisedByItsBytes}
+use Rattle.session.specs.Heard.{HandedInAsRead, bearingOf, Naming, OkNaming, AdvisoryNaming, OkByItsBytes, UnreadableByItsBytes, AdvisedByItsBytes}
+
+-- ---- what is handed in
+
+pub handed-in-as-read : HandedInAsRead
+handed-in-as-read bytes = (λ m e. ap callOf e, λ number place e. ap callOf e)
 
 -- ---- what a value names
 

@@ -27,7 +27,7 @@ use Rattle.session.specs.Rows.{noPush, tableOf, isBlank, eventsOf}
 use Rattle.session.specs.Record.{sessionOf, recordOf, consistent}
 use Rattle.session.specs.Answers.{toldOf, refuse, told, written}
 use Rattle.session.specs.Code.{Asked, answerTo, seen, answers, roomy, heeded, AnswersAreHistory, MadeIsConsistent, ReachedIsConsistent}
-use Rattle.session.specs.Code.{MadeAllowed, MadeRefused, ShortListRefused, InconsistentRefused, RefusedReturnsTheOld, ListFits}
+use Rattle.session.specs.Code.{MadeAllowed, MadeRefused, ShortListRefused, InconsistentRefused, RefusedReturnsTheOld, ListFits, LentSaysTheSame, LastAlone}
 use Rattle.session.specs.declared.Session.{Session as Record}
 use Rattle.session.specs.declared.Told.{Told}
 use Rattle.session.proofs.Rows.{rows-of, list-of, events-count}
@@ -170,4 +170,12 @@ made-refused site outside =
     let not-allowed : allowedInterval (site .interval) ≡ false =
     ⊎-elim (λ l. rw (lt-leb 21 (site .interval) l)) (λ l. and-last (leb 21 (site .interval)) (lt-leb (site .interval) 6000 l)) outside
     in
-    rw not-allowed (refl, refl, refl, rows-of [], refl)
+    rw not-allowed (refl, refl, refl, refl, rows-of [], refl)
+
+-- ---- with a lent list, and with another last number
+
+pub lent-says-the-same : LentSaysTheSame
+lent-says-the-same t = refl
+
+pub last-alone : LastAlone
+last-alone last d = refl

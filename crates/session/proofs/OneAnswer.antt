@@ -10,12 +10,16 @@ use Rattle.conduct.specs.declared.Call.the-variants as variants
 use Rattle.conduct.specs.declared.Event.{Event}
 use Rattle.conduct.specs.declared.Site.{Site}
 use Rattle.conduct.specs.declared.Pushed.the-variants as pushed
+use Rattle.conduct.specs.Session.{usual}
 use Rattle.session.specs.Record.{madeOf, withLast}
 use Rattle.session.specs.Answers.{told, SaysAndWrites, callOfBytes}
 use Rattle.session.specs.declared.Made.{Made}
 use Rattle.session.specs.declared.Said.{Said}
 use Rattle.session.specs.declared.Session.{Session}
 use Rattle.session.specs.declared.Told.{Told}
+
+pub usual-once : (interval : ℕ) {r r′ : Site} → r ≡ usual interval → r′ ≡ usual interval → r ≡ r′
+usual-once interval = one-answer
 
 pub make-once : (site : Site) {r r′ : Made} → r ≡ madeOf site → r′ ≡ madeOf site → r ≡ r′
 make-once site = one-answer

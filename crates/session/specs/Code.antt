@@ -8,15 +8,15 @@ use Prim.Native.Nat.{ℕ, _≤_, _<_}
 use lib.Dec.{leb, ltb, eqb}
 use lib.ListN.{length}
 use Rattle.conduct.specs.declared.Call.{Call}
+use Rattle.conduct.specs.declared.Conduct.the-variants.{New}
 use Rattle.conduct.specs.declared.Event.{Event}
 use Rattle.conduct.specs.declared.Site.{Site}
-use Rattle.conduct.specs.declared.State.the-variants.{Stopped}
+use Rattle.conduct.specs.declared.State.the-variants.{Waiting, Stopped}
 use Rattle.conduct.specs.Lists.{those}
-use Rattle.conduct.specs.Session.{fresh}
 use Rattle.conduct.specs.History.{Entry, history}
 use Rattle.session.specs.Rows.{rowsOf, eventsOf, listOf}
-use Rattle.session.specs.Record.{sessionOf, recordOf, consistent, madeOf}
-use Rattle.session.specs.Answers.{told, written}
+use Rattle.session.specs.Record.{sessionOf, recordOf, consistent, madeOf, withLast}
+use Rattle.session.specs.Answers.{told, saidOf, written}
 use Rattle.session.specs.declared.Session.{Session as Record}
 use Rattle.session.specs.declared.Told.{Told}
 
@@ -63,18 +63,18 @@ MadeIsConsistent = (site : Site) → consistent (madeOf site .session) ≡ true
 abbrev pub ReachedIsConsistent : Type 0
 ReachedIsConsistent = (d : Record) (asked : List Asked) → consistent d ≡ true → consistent (recordAfter d asked) ≡ true
 
--- ---- making one: 4 outside 21 to 6000, with a session that is stopped, and only there
+-- ---- making one: 4 outside 21 to 6000, with a session that is stopped and of the new conduct, and only there
 
 abbrev pub MadeAllowed : Type 0
 MadeAllowed =
     (site : Site) → 21 ≤ site .interval → site .interval ≤ 6000
-    → (madeOf site .refusal ≡ 0) × (madeOf site .session ≡ recordOf (fresh site))
+    → (madeOf site .refusal ≡ 0) × (madeOf site .session ≡ recordOf (record { site = site; state = Waiting 1; pushes = []; last = 0 }))
 
 abbrev pub MadeRefused : Type 0
 MadeRefused =
     (site : Site) → (site .interval < 21) ⊎ (6000 < site .interval)
-    → (madeOf site .refusal ≡ 4) × (madeOf site .session .site .interval ≡ 21) × (madeOf site .session .state ≡ Stopped)
-    × (rowsOf (madeOf site .session .pushes) ≡ []) × (madeOf site .session .last ≡ 0)
+    → (madeOf site .refusal ≡ 4) × (madeOf site .session .site .interval ≡ 21) × (madeOf site .session .site .conduct ≡ New)
+    × (madeOf site .session .state ≡ Stopped) × (rowsOf (madeOf site .session .pushes) ≡ []) × (madeOf site .session .last ≡ 0)
 
 -- ---- refusals, for any record: 3 just where the list is too short, 27 just where it is not and the record fails the test
 
@@ -94,3 +94,11 @@ RefusedReturnsTheOld =
 
 abbrev pub ListFits : Type 0
 ListFits = (places : ℕ) (d : Record) (c : Call) → (told places d c .events .count ≤ places) × (told places d c .events .count ≤ 34)
+
+-- ---- a call with a lent list answers what the same call by value does, and the last number is set alone
+
+abbrev pub LentSaysTheSame : Type 0
+LentSaysTheSame = (t : Told) → saidOf t ≡ record { refusal = t .refusal; next = t .next; count = t .events .count }
+
+abbrev pub LastAlone : Type 0
+LastAlone = (last : ℕ) (d : Record) → withLast last d ≡ record { site = d .site; state = d .state; pushes = d .pushes; last = last }

@@ -1,4 +1,4 @@
--- Promise: what bears on a push, by the bytes of a message that is handed in: so that demand 3's "an Ok with its number" is said of bytes. (proofs/Heard)
+-- Promise: what is handed in of the bytes of a message, and what that is to a push: so that demand 3's "an Ok with its number" is said of bytes. (proofs/Heard)
 -- Assumes nothing.
 use mathlib.Core.Path.{_≡_}
 use mathlib.Core.Bool.{true, false}
@@ -6,16 +6,24 @@ use mathlib.Core.List.{List, [], _∷_}
 use Prim.Native.Nat.{ℕ}
 use Rattle.message.specs.Class.{classOf}
 use Rattle.message.specs.Limits.{linkLimits}
-use Rattle.message.specs.Reading.Reading.{whole}
+use Rattle.message.specs.Reading.Reading.{whole, refused}
 use Rattle.message.specs.Messages.{messageOf}
 use Rattle.message.specs.declared.Kind.{Kind}
 use Rattle.message.specs.declared.Kind.the-variants as kinds
 use Rattle.message.specs.declared.Number.the-variants as numbers
 use Rattle.message.specs.declared.NumberValue.{NumberValue}
 use Rattle.message.specs.declared.Message.{Message}
+use Rattle.conduct.specs.declared.Call.the-variants as calls
 use Rattle.conduct.specs.History.{Bearing, saysUnreadable, callBearing}
 use Rattle.conduct.specs.History.Bearing.{acknowledged, unreadableMessage, advised}
 use Rattle.session.specs.Answers.{callOfBytes}
+
+-- What the reader says of the bytes is handed in as it is, a message or a refusal.
+abbrev pub HandedInAsRead : Type 0
+HandedInAsRead =
+    (bytes : List ℕ)
+    → ((m : Message) → messageOf classOf linkLimits bytes ≡ whole m → callOfBytes bytes ≡ calls.Heard m)
+    × ((number place : ℕ) → messageOf classOf linkLimits bytes ≡ refused number place → callOfBytes bytes ≡ calls.Unreadable number)
 
 -- what the bytes are to the push n, when they are read and handed in
 abbrev pub bearingOf : ℕ → List ℕ → List Bearing

@@ -10,6 +10,7 @@ mod tables;
 mod writing;
 
 use conduct::Call;
+use conduct::Conduct;
 use conduct::Event;
 use conduct::Push;
 use conduct::Pushed;
@@ -22,7 +23,7 @@ ghost use mathlib.Core.Path.{_≡_};
 ghost use lib.ListN.{length};
 ghost use Rattle.conduct.specs.declared.Call.the-variants as variants;
 ghost use Rattle.conduct.specs.declared.Pushed.the-variants as pushed;
-ghost use Rattle.conduct.specs.Session.{usual};
+ghost use Rattle.conduct.specs.Session.{usual as Session·usual};
 ghost use Rattle.session.specs.Record.{madeOf, withLast};
 ghost use Rattle.session.specs.Answers.{told as Answers·told, SaysAndWrites, callOfBytes};
 
@@ -66,6 +67,16 @@ pub struct Made {
     pub session: Session,
 }
 
+// The site of which only the interval is said: its conduct is the new one.
+pub fn usual(interval: u32) -> Site
+    ensures { λ r. ⌜ r ≡ Session·usual interval ⌝ }
+{
+    Site {
+        interval,
+        conduct: Conduct::New,
+    }
+}
+
 // A fresh session of the site; a stopped one where that is refused.
 pub fn make(site: Site) -> Made
     ensures { λ r. ⌜ r ≡ madeOf site ⌝ }
@@ -85,12 +96,12 @@ pub fn make(site: Site) -> Made
 }
 
 fn refused_making() -> Made
-    ensures { λ r. ⌜ r ≡ madeOf (usual 0) ⌝ }
+    ensures { λ r. ⌜ r ≡ madeOf (Session·usual 0) ⌝ }
 {
     Made {
         refusal: 4,
         session: Session {
-            site: Site { interval: 21 },
+            site: usual(21),
             state: State::Stopped,
             pushes: tables::empty(),
             last: 0,

@@ -169,10 +169,14 @@ fn acted(s: Session, held: &[u32], m: Message, action: Action) -> Move
     let state = s.state;
     match action {
         Action::OutOfPlace => moves::goes(state, Remark::Note(codes::OUT_OF_PLACE, 0)),
-        Action::Answer => moves::answered(
-            numbers::next_free(held, s.last),
-            heard::status_by(m.status),
-        ),
+        Action::Answer => {
+            let site = s.site;
+            let conduct = site.conduct;
+            moves::answered(
+                numbers::next_free(held, s.last),
+                moves::counted_in(conduct, heard::status_by(m.status)),
+            )
+        }
         Action::Acknowledge => acknowledged(s, held, heard::named_by(m.in_response_to)),
         Action::Advise => advised(s, held, m),
         Action::Request => moves::goes(state, Remark::Note(codes::REQUEST_ARRIVED, 0)),

@@ -10,6 +10,9 @@ Inv-loop s₀ handle₀ s handle = Unit {0}
 abbrev μ-loop : tie.MeasureT-loop
 μ-loop s₀ handle₀ s handle = 32 - handle
 
+usual-requires : tie.Need-usual-requires Inv-loop μ-loop
+usual-requires c κs = tt
+
 make-requires : tie.Need-make-requires Inv-loop μ-loop
 make-requires c κs = tt
 
@@ -37,6 +40,7 @@ full-spec =
     (tie.spec
     Inv-loop
     μ-loop
+    usual-requires
     make-requires
     loop-holds
     respond-requires

@@ -9,18 +9,18 @@ use lib.ListN.{drop}
 use denote.Ref.{now}
 use Rattle.replay.specs.declared.script.Line.{Line}
 use Rattle.replay.specs.declared.script.Line.the-variants as lines
-use Rattle.replay.specs.Script.{isDecimal, intervalOf}
+use Rattle.replay.specs.Script.{isDecimal, anInterval, intervalOf}
 use Rattle.replay.proofs.Words.{a-number, no-number}
 
 -- what a text stands for that is no number of 32 bits
 abbrev otherwise : tie.Start → Line
-otherwise s = cond (isDecimal (drop 9 (now (s .args .line)))) (lines.Interval 4294967295) lines.Bad
+otherwise s = cond (isDecimal (drop 9 (now (s .args .line)))) (anInterval 4294967295) lines.Bad
 
 too-long : (c : tie.Else1)
     → intervalOf (drop 9 (now (c .before .before .before .before .args .line))) ≡ otherwise (c .before .before .before .before)
 too-long c =
     let number = c .before .before .number in
-    no-number (number .ensures) (c .before .flag .ensures) lines.Interval (otherwise (c .before .before .before .before)) (c .if1 .left)
+    no-number (number .ensures) (c .before .flag .ensures) anInterval (otherwise (c .before .before .before .before)) (c .if1 .left)
 
 number-requires : tie.Need-number-requires
 number-requires c κs = search needs
@@ -35,7 +35,7 @@ returns : tie.Need-returns
 returns c =
     let number = c .before .before .before in
     let flag = c .before .before .flag in
-    a-number (number .number .ensures) (flag .ensures) lines.Interval (otherwise (number .before .before)) (c .before .if1 .taken)
+    a-number (number .number .ensures) (flag .ensures) anInterval (otherwise (number .before .before)) (c .before .if1 .taken)
     (c .named .ensures)
 
 is-decimal-requires : tie.Need-is-decimal-requires

@@ -12,11 +12,11 @@ use Rattle.message.specs.Words.{codes}
 use Rattle.conduct.specs.declared.Call.the-variants as calls
 use Rattle.replay.specs.declared.script.Line.{Line}
 use Rattle.replay.specs.declared.script.Line.the-variants as lines
-use Rattle.replay.specs.Script.{isWord, begins, numberedOf, lineOf}
+use Rattle.replay.specs.Script.{isWord, begins, wordedOf, lineOf}
 
 -- what the words from each on stand for
 abbrev fromMessage : List ℕ → Line
-fromMessage line = cond (begins (codes "message ") line) lines.Message (numberedOf line)
+fromMessage line = cond (begins (codes "message ") line) lines.Message (wordedOf line)
 
 abbrev fromStop : List ℕ → Line
 fromStop line = cond (isWord (codes "stop") line) (lines.Other calls.Stop) (fromMessage line)
@@ -66,7 +66,7 @@ rest-4 c = rest-3 (c .before .before .before) ∙ rw (sym (c .before .is-word3 .
 rest-5 : (c : tie.Else5) → lineOf (line-5 c) ≡ fromMessage (line-5 c)
 rest-5 c = rest-4 (c .before .before .before) ∙ rw (sym (c .before .is-word4 .ensures) ∙ c .if5 .left)
 
-rest-6 : (c : tie.Else6) → lineOf (line-6 c) ≡ numberedOf (line-6 c)
+rest-6 : (c : tie.Else6) → lineOf (line-6 c) ≡ wordedOf (line-6 c)
 rest-6 c = rest-5 (c .before .before .before) ∙ rw (sym (c .before .begins .ensures) ∙ c .if6 .left)
 
 returns : tie.Need-returns
@@ -118,11 +118,11 @@ begins-requires c κs = search needs
 returns-6 : tie.Need-returns-6
 returns-6 c = sym (rest-5 (c .before .before .before) ∙ rw (sym (c .before .begins .ensures) ∙ c .if6 .taken))
 
-numbered-requires : tie.Need-numbered-requires
-numbered-requires c κs = search needs
+worded-requires : tie.Need-worded-requires
+worded-requires c κs = search needs
 
 returns-7 : tie.Need-returns-7
-returns-7 c = c .numbered .ensures ∙ sym (rest-6 (c .before))
+returns-7 c = c .worded .ensures ∙ sym (rest-6 (c .before))
 
 pub line-of-spec : {M : Type 1} → statement M
 line-of-spec =
@@ -144,5 +144,5 @@ line-of-spec =
     slice-aggregate-begins
     begins-requires
     returns-6
-    numbered-requires
+    worded-requires
     returns-7)

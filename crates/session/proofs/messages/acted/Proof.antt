@@ -18,6 +18,9 @@ next-free-requires c κs = search needs
 status-by-requires : tie.Need-status-by-requires
 status-by-requires c κs = search needs
 
+counted-in-requires : tie.Need-counted-in-requires
+counted-in-requires c κs = search needs
+
 answered-requires : tie.Need-answered-requires
 answered-requires c κs = search needs
 
@@ -47,9 +50,10 @@ returns c = rw (c .before .enum-told .given .1) (c .goes .ensures)
 
 returns-2 : tie.Need-returns-2
 returns-2 c =
-    let start = c .before .before .before .before .before .before in
-    let numbers = rw (c .before .before .next-free .ensures, start .pre) at (c .answered .ensures) in
-    rw (c .before .before .before .enum-told2 .given .1) (rw (c .before .status-by .ensures) at numbers)
+    let start = c .before .before .before .before .before .before .before .before in
+    let numbers = rw (c .before .before .before .next-free .ensures, start .pre) at (c .answered .ensures) in
+    let status = rw (c .before .before .status-by .ensures) at (c .before .counted-in .ensures) in
+    rw (c .before .before .before .before .before .enum-told2 .given .1) (rw status at numbers)
 
 returns-3 : tie.Need-returns-3
 returns-3 c = rw (c .before .before .enum-told3 .given .1) (rw (c .before .named-by .ensures) at (c .acknowledged .ensures))
@@ -69,6 +73,7 @@ acted-spec =
     enum-told-2
     next-free-requires
     status-by-requires
+    counted-in-requires
     answered-requires
     enum-told-3
     named-by-requires
