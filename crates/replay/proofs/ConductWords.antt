@@ -4,26 +4,23 @@ use mathlib.Core.Bool.{Bool, true, false}
 use mathlib.Core.List.{List, [], _∷_}
 use Prim.Native.Nat.{ℕ}
 use native.Mathlib.Omega.{arith}
-use lib.Dec.{leb, eqb}
-use lib.ListN.{length, take, drop}
+use lib.Dec.{eqb}
+use lib.ListN.{length, take}
 use lib.Seq.{take-all}
 use borrow.Author.Tests.{eqb-true}
-use mathlib.Core.Bool.{_&&_}
 use Rattle.laws.specs.Bytes.{sameBytes}
 use Rattle.laws.proofs.Tests.{true-false, cond-cases}
 use Rattle.laws.proofs.Tails.{same-eq}
 use Rattle.message.proofs.Laws.{both-first, both-second}
-use Rattle.message.specs.Values.{decimalOf}
 use Rattle.message.specs.Words.{codes}
-use Rattle.message.specs.declared.Number.{Number}
-use Rattle.message.specs.declared.Number.the-variants.{Nothing, Names}
 use Rattle.conduct.specs.declared.Conduct.{Conduct}
 use Rattle.conduct.specs.declared.Conduct.the-variants.{New, Old}
 use Rattle.conduct.specs.Conducts.{isOld}
 use Rattle.replay.specs.declared.script.Line.{Line}
 use Rattle.replay.specs.declared.script.Line.the-variants as lines
 use Rattle.replay.specs.declared.script.Setting.the-variants as settings
-use Rattle.replay.specs.Script.{isWord, begins, behind, orElse, isDecimal, anInterval, numberedOf, wordedOf, lineOf}
+use Rattle.replay.specs.Script.{isWord, begins, numberedOf, wordedOf, lineOf}
+use Rattle.replay.proofs.Words.{numbered-each}
 use Rattle.replay.specs.Settings.{wordsFor, ConductByItsWords, ConductsAtWork}
 
 pub conducts-at-work : ConductsAtWork
@@ -45,25 +42,8 @@ conductsIn lines.Bad = []
 abbrev None : Line → Type 0
 None line = conductsIn line ≡ []
 
-module _ (x : Number) (other : Line) (none : None other) where
-  by-number : (line : ℕ → Line) → ((n : ℕ) → None (line n)) → None (orElse x line other)
-  by-number line numbered = go x
-    where
-      go : (y : Number) → None (orElse y line other)
-      go Nothing = none
-      go (Names n) = numbered n
-
 numbered-none : (line : List ℕ) → None (numberedOf line)
-unfolding numberedOf
-numbered-none line =
-    cond-cases None (begins (codes "interval ") line)
-    (λ _. by-number (decimalOf (drop 9 line)) _ (cond-cases None (isDecimal (drop 9 line)) (λ _. refl) (λ _. refl)) anInterval (λ n. refl))
-    (λ _. by-number (behind (codes "tick ") line) _
-    (by-number (behind (codes "push ") line) _
-    (by-number (behind (codes "advise ") line) _
-    (by-number (behind (codes "unreadable ") line) _
-    (by-number (behind (codes "last ") line) lines.Bad refl lines.Last (λ n. refl)) _ (λ n. refl)) _ (λ n. refl)) _ (λ n. refl)) _
-    (λ n. cond-cases None (leb 1 n && leb n 1000000) (λ _. refl) (λ _. refl)))
+numbered-none = numbered-each None (λ n. refl) (λ n. refl) (λ c. refl) (λ n. refl) refl
 
 is-the-word : (word line : List ℕ) → isWord word line ≡ true → line ≡ word
 is-the-word word line h =

@@ -18,21 +18,12 @@ use Rattle.replay.specs.declared.script.Setting.the-variants as settings
 use Rattle.replay.specs.declared.runs.Phase.the-variants.{Settling}
 use Rattle.replay.specs.declared.runs.Run.{Run}
 use Rattle.replay.specs.Script.{lineOf}
-use Rattle.replay.specs.Runs.{Done, silent, andThen, freshRun, phaseBy, madeRun, endsSettings, readyFor, nextLine, settled, set, taken}
+use Rattle.replay.specs.Runs.{Done, silent, andThen, freshRun, phaseBy, endsSettings, readyFor, nextLine, settled, set, taken}
 use Rattle.replay.specs.Replay.{takenItem, takenItems}
+use Rattle.replay.proofs.Ready.{ends-unless, made-by}
 use Rattle.replay.specs.Settings.{lineIn, said, lastInterval, lastConduct, isSettingOrEmpty, siteSaid, SettingsMake}
 
 -- ---- one line
-
--- these, and no others, leave the settings open
-ends-unless : (line : Line) → endsSettings line ≡ not (isSettingOrEmpty line)
-ends-unless lines.Nothing = refl
-ends-unless (lines.Set setting) = refl
-ends-unless (lines.Ticks count) = refl
-ends-unless (lines.Other call) = refl
-ends-unless lines.Message = refl
-ends-unless (lines.Last last) = refl
-ends-unless lines.Bad = refl
 
 taken-set : (run : Run) (line : Line) (bytes : List ℕ) → run .phase ≡ Settling → endsSettings line ≡ false
     → taken run line bytes ≡ silent (nextLine (set run line))
@@ -106,11 +97,6 @@ settle (x ∷ xs) run e h =
 fresh-is : (freshRun .phase ≡ Settling) × (freshRun .site ≡ record { interval = 100; conduct = New })
 unfolding freshRun
 fresh-is = (refl, refl)
-
-made-by : (run : Run) (line : Line) → run .phase ≡ Settling → endsSettings line ≡ true
-    → (readyFor run line .session ≡ madeOf (run .site) .session) × (readyFor run line .phase ≡ phaseBy (madeOf (run .site) .refusal))
-unfolding readyFor madeRun
-made-by run line e h = (rw (e, h), rw (e, h))
 
 pub settings-make : SettingsMake
 settings-make items h =

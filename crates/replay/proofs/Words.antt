@@ -12,6 +12,7 @@ use Rattle.message.specs.declared.Number.{Number}
 use Rattle.message.specs.declared.Number.the-variants.{Nothing, Names}
 use Rattle.message.specs.Values.{numberFlag, numberNamed, decimalOf}
 use Rattle.message.specs.Words.{codes}
+use Rattle.conduct.specs.declared.Call.{Call}
 use Rattle.replay.specs.declared.script.Line.{Line}
 use Rattle.replay.specs.declared.script.Line.the-variants as lines
 use Rattle.replay.specs.Script.{isWord, begins, behind, orElse, ticksOf, isDecimal, anInterval, numberedOf, wordedOf, lineOf, bytesOfWord}
@@ -35,41 +36,34 @@ pub begins-long : (word line : List ℕ) → begins word line ≡ true → lengt
 begins-long word line is =
     omega (arith, ap length (same-eq (take (length word) line) word is), length-take (length word) line)
 
+-- ---- what holds of each line that a word with a number can stand for
+
+module _ (P : Line → Type 0) where
+  by-number : (x : Number) (line : ℕ → Line) (other : Line) → ((n : ℕ) → P (line n)) → P other → P (orElse x line other)
+  by-number Nothing line other each rest = rest
+  by-number (Names n) line other each rest = each n
+
+  pub numbered-each : ((n : ℕ) → P (anInterval n)) → ((n : ℕ) → P (lines.Ticks n)) → ((c : Call) → P (lines.Other c)) → ((n : ℕ) → P (lines.Last n))
+      → P lines.Bad → (line : List ℕ) → P (numberedOf line)
+  unfolding numberedOf
+  numbered-each interval ticks other last bad line =
+      cond-cases P (begins (codes "interval ") line)
+      (λ _. by-number (decimalOf (drop 9 line)) anInterval _ interval
+      (cond-cases P (isDecimal (drop 9 line)) (λ _. interval 4294967295) (λ _. bad)))
+      (λ _. by-number (behind (codes "tick ") line) ticksOf _
+      (λ n. cond-cases P (leb 1 n && leb n 1000000) (λ _. ticks n) (λ _. bad))
+      (by-number (behind (codes "push ") line) _ _ (λ n. other _)
+      (by-number (behind (codes "advise ") line) _ _ (λ n. other _)
+      (by-number (behind (codes "unreadable ") line) _ _ (λ n. other _)
+      (by-number (behind (codes "last ") line) _ _ last bad)))))
+
 -- ---- a line that is a message has the bytes of its word
-
--- no number makes a message
-module _ (x : Number) (other : Line) (none : bytesOfWord other ≤ 0) where
-  by-number : (line : ℕ → Line) → ((n : ℕ) → bytesOfWord (line n) ≤ 0) → bytesOfWord (orElse x line other) ≤ 0
-  by-number line no-word = go x
-    where
-      go : (y : Number) → bytesOfWord (orElse y line other) ≤ 0
-      go Nothing = none
-      go (Names n) = no-word n
-
-numbered-short : (line : List ℕ) → bytesOfWord (numberedOf line) ≤ 0
-unfolding numberedOf
-numbered-short line =
-    cond-cases Short (begins (codes "interval ") line)
-    (λ _. by-number (decimalOf (drop 9 line)) _ (cond-cases Short (isDecimal (drop 9 line)) (λ _. zero-le) (λ _. zero-le)) anInterval
-    (λ n. zero-le))
-    (λ _. by-number (behind (codes "tick ") line) _
-    (by-number (behind (codes "push ") line) _
-    (by-number (behind (codes "advise ") line) _
-    (by-number (behind (codes "unreadable ") line) _
-    (by-number (behind (codes "last ") line) lines.Bad zero-le lines.Last (λ n. zero-le))
-    _ (λ n. zero-le))
-    _ (λ n. zero-le))
-    _ (λ n. zero-le))
-    ticksOf (λ n. cond-cases Short (leb 1 n && leb n 1000000) (λ _. zero-le) (λ _. zero-le)))
-  where
-    Short : Line → Type 0
-    Short l = bytesOfWord l ≤ 0
 
 worded-short : (line : List ℕ) → bytesOfWord (wordedOf line) ≤ 0
 unfolding wordedOf
 worded-short line =
     cond-cases Short (isWord (codes "conduct new") line) (λ _. zero-le)
-    (λ _. cond-cases Short (isWord (codes "conduct old") line) (λ _. zero-le) (λ _. numbered-short line))
+    (λ _. cond-cases Short (isWord (codes "conduct old") line) (λ _. zero-le) (λ _. numbered-each Short (λ n. zero-le) (λ n. zero-le) (λ c. zero-le) (λ n. zero-le) zero-le line))
   where
     Short : Line → Type 0
     Short l = bytesOfWord l ≤ 0
