@@ -39,7 +39,12 @@ REASON_ROW = re.compile(r"^\| (\d+) \| [^|]*\w[^|]* \| (\d+) \|$", re.MULTILINE)
 FATE_ROW = re.compile(r"^\| (%s) \| (\d+) \| ([\d, ]+) \|" % "|".join(FATES), re.MULTILINE)
 HANDED_OVER = re.compile(r"handed (\d+) things over to the box: (\d+) records,[^.]* and (\d+) notices,[^.]*\(([\d, ]+)\)")
 TIME = re.compile(r"\d\d:\d\d:\d\d\.\d")
-SEARCH = re.compile(r"^    \$ \./box (items|replay) < (\S+) \| grep '([^']+)'\n((?:    .*\n)+)", re.MULTILINE)
+SEARCH = re.compile(r"^    \$ (.*) \| grep '([^']+)'\n((?:    .*\n)+)", re.MULTILINE)
+# What is searched on the page, and where what it prints stands; check_samples.sh holds the programs to those of the satellite.
+SEARCHED = {
+    "./box items < samples/evening.input": "evening.items", "./box replay < samples/evening.txt": "evening.out",
+    "./box replay < samples/satellite.txt": "satellite.1.out", "{ echo resends 3; cat samples/satellite.txt; } | ./box replay": "satellite.3.out",
+}
 QUOTED = re.compile(r"`([^`]+)`")
 
 
@@ -199,12 +204,12 @@ def faults_of_fates(page):
 def faults_of_searches(page):
     searches = SEARCH.findall(page)
     yield "searches on the page", [] if len(searches) > 2 else ["only %d" % len(searches)]
-    for program, given, pattern, shown in searches:
-        name = {"items": "evening.items", "replay": "evening.out"}[program]
-        found = [line for line in lines_of(name) if re.search(pattern, line)]
-        inputs = {"items": "samples/evening.input", "replay": "samples/evening.txt"}
-        yield "grep '%s'" % pattern, lists_differ(re.findall(r"^    (.*)$", shown, re.MULTILINE), found) + (
-            [] if given == inputs[program] else ["reads " + given])
+    for command, pattern, shown in searches:
+        found = [line for line in lines_of(SEARCHED[command]) if re.search(pattern, line)] if command in SEARCHED else []
+        faults = lists_differ(re.findall(r"^    (.*)$", shown, re.MULTILINE), found)
+        yield "grep '%s'" % pattern, faults + ([] if command in SEARCHED else ["searches what is not known: " + command])
+    missing = [command for command in SEARCHED if command not in {one[0] for one in searches}]
+    yield "all is searched", ["not on the page: " + command for command in missing]
 
 
 def faults_of_long_message(page):

@@ -140,14 +140,14 @@ def end_due(one, start):
 
 
 def probe_of(one, run):
-    """A call that tells places apart that replay's last line does not, and the events due: the 300 ticks of Waiting, whether a SessionOk is open, how
-    often a push was sent."""
+    """A call that tells places apart that replay's last line does not, and the events due: the 300 ticks of Waiting, whether a SessionOk is open,
+    whether a push has a sending left."""
     if one.last == "Waiting":
         return "tick 300", (1,)
     if one in session_moves.HEARTBEAT:
         number = [event[2] for event in run.events if event[1] == 3][-1]
         return session_moves.ok(number), () if one.last == session_moves.AWAITED else (15,)
-    again = {session_moves.ONCE: (5,), session_moves.AGAIN: (10,), session_moves.ADVISORY: (10,), session_moves.CLOSED: (15,)}
+    again = {session_moves.MORE: (5,), session_moves.SPENT: (10,), session_moves.ADVISORY: (10,), session_moves.CLOSED: (15,)}
     if one in session_moves.PUSHES and run.end.startswith("end up"):
         return session_moves.advisory(3, "UnreadableMessage"), again[one.last]
     return None
@@ -206,10 +206,13 @@ def faults_of_omission(command):
 
 
 def faults_of_bounds(command):
-    """The interval, and the most pushes."""
+    """The interval, the resends, and the most pushes."""
     for interval, made in [(20, False), (21, True), (6000, True), (6001, False)]:
         end = Run(command, ["interval %d" % interval]).end
         yield "session.svg", [] if end == ("end waiting 0" if made else "stop 4") else ["interval %d: %s" % (interval, end)]
+    for resends, made in [(0, True), (3, True), (4, False)]:
+        end = Run(command, ["resends %d" % resends]).end
+        yield "session.svg", [] if end == ("end waiting 0" if made else "stop 18") else ["resends %d: %s" % (resends, end)]
     for pushes, refusals in [(32, []), (33, ["7"])]:
         run = Run(command, session_moves.UP + ["push %d" % handle for handle in range(pushes)])
         yield "session.svg", [] if run.refusals == refusals and run.end == "end up 32" else ["%d pushes: %s" % (pushes, run.end)]

@@ -78,6 +78,12 @@ for conduct in new old; do
     check "redundant, conduct $conduct" prints "$top/samples/redundant.$conduct.out" replay <"$scratch/redundant.txt"
 done
 check 'redundant, no conduct said' prints "$top/samples/redundant.new.out" replay <"$top/samples/redundant.txt"
+for resends in 1 3; do
+    { echo "resends $resends"; cat "$top/samples/satellite.txt"; } >"$scratch/satellite.txt"
+    check "satellite.$resends.out by the independent program" model_prints "$top/samples/satellite.$resends.out" <"$scratch/satellite.txt"
+    check "satellite, resends $resends" prints "$top/samples/satellite.$resends.out" replay <"$scratch/satellite.txt"
+done
+check 'satellite, no resends said' prints "$top/samples/satellite.1.out" replay <"$top/samples/satellite.txt"
 check 'an unknown command' lists_commands mend
 check 'no command' lists_commands
 check 'a word too many' lists_commands line '##'

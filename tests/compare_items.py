@@ -29,7 +29,7 @@ LONG_STREAM = 3000000
 
 COMPARISON = ProgramComparison(
     description="Holds the listing program against the independent model.", thing="stream", cases=150, model=listing,
-    by_hand=BY_HAND + PAPER_LISTINGS, stopped=b"stop 1\n")
+    by_hand=BY_HAND + PAPER_LISTINGS, stopped=(b"stop 1\n",))
 
 
 def reset_after(data):

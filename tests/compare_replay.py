@@ -27,18 +27,17 @@ from paper_runs import PAPER_SCRIPTS  # noqa: E402
 from programs import ProgramComparison, output_of_file  # noqa: E402
 from replay_script import replay  # noqa: E402
 from scripts_by_hand import SCRIPTS_BY_HAND  # noqa: E402
-from session_captured import CAPTURED, told_without, with_settings  # noqa: E402
+from session_captured import CAPTURED, VECTORS, told_without, with_settings  # noqa: E402
 from session_cases import script_numbered  # noqa: E402
 from session_self_tests import all_self_tests  # noqa: E402
 from session_sightings import TO_SEE, WatchedReplay  # noqa: E402
 from session_vector_text import output_to_text, vector_from_text  # noqa: E402
 
-VECTORS = "session.txt"
 LEAST_CALLS = 100000
 
 COMPARISON = ProgramComparison(
     description="Holds the program replay against the independent model of the session.", thing="script", cases=540,
-    model=replay, by_hand=SCRIPTS_BY_HAND + PAPER_SCRIPTS, stopped=b"stop 4\n")
+    model=replay, by_hand=SCRIPTS_BY_HAND + PAPER_SCRIPTS, stopped=(b"stop 4\n", b"stop 18\n"))
 
 # Where the script is cut off, no line `end` or `stop` follows, and what came of its last line does nothing.
 CUT_OFF = (
@@ -50,7 +49,7 @@ CUT_OFF = (
     ("standard input closed", lambda command: with_descriptor_closed(command, "<&-"), b""),
     ("a folder as input", from_folder, b""),
     ("a reset socket", lambda command: from_reset_socket(command, b"x\n\nstop now\ny"), b"line 1 bad\nline 3 bad\n"),
-    ("a reset socket among the settings", lambda command: from_reset_socket(command, b"interval 0\n"), b""),
+    ("a reset socket among the settings", lambda command: from_reset_socket(command, b"interval 0\nresends 4\n"), b""),
 )
 
 
@@ -82,7 +81,7 @@ def run_vectors(tally, command, lines):
 
 
 def run_captured(tally, command, captured):
-    tally.begin("vectors of %s under %s" % (captured.file, ", ".join(captured.settings)))
+    tally.begin("vectors of %s under %s" % (captured.file, ", ".join(captured.settings) or "no setting"))
     for line in vectors_of(captured.file):
         tally.run("captured vector " + line.split(" ", 1)[0], lambda: run_vector(command, line, captured.settings))
     tally.end()

@@ -10,10 +10,10 @@ GIVEN = range(8, 15)  # the reader's refusals
 LOST = 12  # said of each open push where Up is left
 
 STATES = ["Waiting", "Connecting", "Opening", "Confirming", "Up", "Stopped"]
-ONCE, AGAIN, ADVISORY, OPEN, CLOSED = "Response, sent once", "Response, sent again", "Advisory, sent", "any open push", "closed"
+MORE, SPENT, ADVISORY, OPEN, CLOSED = "Response, a sending left", "Response, none left", "Advisory, sent", "any open push", "closed"
 NONE, AWAITED = "no SessionOk open", "SessionOk open"
 OLD = "Opening in the old conduct"
-SETTINGS = ("interval ", "conduct ")
+SETTINGS = ("interval ", "conduct ", "resends ")
 
 
 def status(word):
@@ -43,10 +43,13 @@ STARTS = {
     "Confirming": (CONFIRMING, 0),
     "Up": (UP, 0), "Stopped": (["stop"], 0), "pushes": (UP + ["push 7", "advise 8"], 2), AWAITED: (UP + ["tick 100"], 0),
     "both": (UP + ["tick 100", "push 7"], 1),
-    ONCE: (UP + ["push 7"], 1), ADVISORY: (UP + ["advise 8"], 1), "again by time": (UP + ["push 7", "tick 20"], 1),
+    MORE: (UP + ["push 7"], 1), ADVISORY: (UP + ["advise 8"], 1), "again by time": (UP + ["push 7", "tick 20"], 1),
     "again by Advisory": (UP + ["push 7", "tick 5", advisory(3, "UnreadableMessage")], 1),
+    "no resends": (["resends 0"] + UP + ["push 7"], 1), "three resends": (["resends 3"] + UP + ["push 7"], 1),
+    "the third of three": (["resends 3"] + UP + ["push 7", "tick 60"], 1), "the second of three": (["resends 3"] + UP + ["push 7", "tick 40"], 1),
 }
-TWICE = ("again by time", "again by Advisory")
+NOT_YET_SPENT = (MORE, "three resends", "the second of three")
+ALL_SENT = ("again by time", "again by Advisory", "no resends", "the third of three")
 
 
 class Move(NamedTuple):
@@ -95,17 +98,20 @@ HEARTBEAT = [
     move("heartbeat-advised", AWAITED, NONE, "Advisory naming it", (17,), (AWAITED, [advisory(3)])),
 ]
 PUSHES = [
-    move("push", "", ONCE, "Response pushed", (4,), ("Up", ["push 7"])),
+    move("push", "", MORE, "Response pushed", (4,), ("Up", ["push 7"])),
     move("advise", "", ADVISORY, "Advisory pushed", (6,), ("Up", ["advise 8"])),
-    move("again-late", ONCE, AGAIN, "20th tick", (5,), (ONCE, ["tick 20"])),
-    move("again-unreadable", ONCE, AGAIN, "UnreadableMessage naming it", (5,), (ONCE, ["tick 19", advisory(3, "UnreadableMessage")])),
-    move("once-ok", ONCE, CLOSED, "Ok naming it", (9,), (ONCE, [ok(3)]), (ONCE, ["tick 19", ok(3)])),
-    move("once-advised", ONCE, CLOSED, "another Advisory naming it", (10,), (ONCE, [advisory(3)])),
-    move("ok", AGAIN, CLOSED, "Ok naming it", (9,), *((start, [ok(3)]) for start in (*TWICE, ADVISORY))),
-    move("advised", AGAIN, CLOSED, "any Advisory naming it", (10,),
-         *((start, [advisory(3, word)]) for start in (*TWICE, ADVISORY) for word in ("Alert", "UnreadableMessage"))),
-    move("late", AGAIN, CLOSED, "20th tick", (11,), *((start, ["tick 20"]) for start in (*TWICE, ADVISORY))),
-    move("up-left", OPEN, CLOSED, "Up is left", (LOST,), *((start, ["lost"]) for start in (ONCE, *TWICE, ADVISORY))),
+    move("more-late", MORE, MORE, "20th tick", (5,), ("three resends", ["tick 20"])),
+    move("more-unreadable", MORE, MORE, "UnreadableMessage naming it", (5,), ("three resends", ["tick 19", advisory(3, "UnreadableMessage")])),
+    move("again-late", MORE, SPENT, "20th tick", (5,), (MORE, ["tick 20"]), ("the second of three", ["tick 20"])),
+    move("again-unreadable", MORE, SPENT, "UnreadableMessage naming it", (5,),
+         *((start, ["tick 19", advisory(3, "UnreadableMessage")]) for start in (MORE, "the second of three"))),
+    move("more-ok", MORE, CLOSED, "Ok naming it", (9,), *((start, lines) for start in NOT_YET_SPENT for lines in ([ok(3)], ["tick 19", ok(3)]))),
+    move("more-advised", MORE, CLOSED, "another Advisory naming it", (10,), *((start, [advisory(3)]) for start in NOT_YET_SPENT)),
+    move("ok", SPENT, CLOSED, "Ok naming it", (9,), *((start, [ok(3)]) for start in (*ALL_SENT, ADVISORY))),
+    move("advised", SPENT, CLOSED, "any Advisory naming it", (10,),
+         *((start, [advisory(3, word)]) for start in (*ALL_SENT, ADVISORY) for word in ("Alert", "UnreadableMessage"))),
+    move("late", SPENT, CLOSED, "20th tick", (11,), *((start, ["tick 20"]) for start in (*ALL_SENT, ADVISORY))),
+    move("up-left", OPEN, CLOSED, "Up is left", (LOST,), *((start, ["lost"]) for start in (*NOT_YET_SPENT, *ALL_SENT, ADVISORY))),
 ]
 
 # What is heard and changes neither the state nor a push.

@@ -2,13 +2,13 @@
 from xml.sax.saxutils import escape
 
 from picture import INK, THIN, SAID, PALE, SMALL, NAME, Picture
-from session_moves import ADVISORY, AGAIN, AWAITED, CLOSED, HEARTBEAT, MOVES, NONE, ONCE, OPEN, PUSHES, STAYS, named, said
+from session_moves import ADVISORY, AWAITED, CLOSED, HEARTBEAT, MORE, MOVES, NONE, OPEN, PUSHES, SPENT, STAYS, named, said
 
 BOXES = {
     "Waiting": (470, 46, 200, 66), "Connecting": (470, 186, 200, 60), "Opening": (470, 330, 200, 170), "Confirming": (470, 590, 200, 180),
     "Up": (40, 930, 920, 506), "Stopped": (860, 262, 130, 64),
     NONE: (60, 1022, 200, 96), AWAITED: (744, 1022, 196, 96),
-    ONCE: (204, 1168, 246, 54), AGAIN: (204, 1292, 246, 54), ADVISORY: (204, 1358, 246, 54),
+    MORE: (204, 1168, 246, 54), SPENT: (204, 1292, 246, 54), ADVISORY: (204, 1358, 246, 54),
     OPEN: (192, 1158, 270, 264), CLOSED: (838, 1158, 106, 264),
 }
 INSIDE = {"Waiting": ["300 ticks; at first 1"], "Connecting": ["no timer"], "Stopped": ["refusal 5"]}
@@ -125,7 +125,7 @@ def draw_pushes(picture):
     top = BOXES[OPEN][1]
     picture.text(60, top - 8, "Each push, at most 32 open", bold=True, colour=THIN)
     picture.rectangle(*BOXES[OPEN], fill=PALE, stroke=THIN, thick=1)
-    for name, words in [(ONCE, "20 ticks"), (AGAIN, "20 ticks more"), (ADVISORY, "20 ticks")]:
+    for name, words in [(MORE, "20 ticks; 0 to 3 resends"), (SPENT, "20 ticks"), (ADVISORY, "20 ticks")]:
         picture.box(BOXES[name], name, [words])
     picture.box(BOXES[CLOSED], CLOSED, ["its room is", "free again"])
     for name, y in [("push", 1206), ("advise", 1386)]:
@@ -134,16 +134,19 @@ def draw_pushes(picture):
             draw_words(picture, 54, y, named(name))
     with picture.group("again-late again-unreadable"):
         picture.line([(216, 1222), (216, 1292)])
+    with picture.group("more-late more-unreadable"):
+        picture.line([(390, 1222), (390, 1238), (436, 1238), (436, 1222)])
+    with picture.group("again-late again-unreadable more-late more-unreadable"):
         late, unreadable = named("again-late"), named("again-unreadable")
         for i, (words, colour) in enumerate([(late.call + ", or", INK), (unreadable.call, INK), (said(late)[0], SAID)]):
             picture.text(226, 1243 + 19 * i, words, colour=colour)
 
 
 def draw_closings(picture):
-    with picture.group("once-ok once-advised"):
+    with picture.group("more-ok more-advised"):
         picture.line([(450, 1206), (838, 1206)])
-        draw_both(picture, 474, 1180, named("once-ok"))
-        draw_both(picture, 474, 1199, named("once-advised"))
+        draw_both(picture, 474, 1180, named("more-ok"))
+        draw_both(picture, 474, 1199, named("more-advised"))
     with picture.group("ok advised late"):
         picture.line([(450, 1319), (478, 1319), (478, 1352), (838, 1352)])
         picture.line([(450, 1376), (478, 1376), (478, 1352)], head=0)
@@ -155,9 +158,9 @@ def draw_closings(picture):
 
 
 def leaves(one):
-    """Where a move begins. What a Response that was sent again and an Advisory have in common is drawn once."""
-    shared = one.first == AGAIN and any(start == ADVISORY for start, _ in one.trials)
-    return "%s, or %s" % (AGAIN, ADVISORY) if shared else one.first or "Up"
+    """Where a move begins. What a Response that has no sending left and an Advisory have in common is drawn once."""
+    shared = one.first == SPENT and any(start == ADVISORY for start, _ in one.trials)
+    return "%s, or %s" % (SPENT, ADVISORY) if shared else one.first or "Up"
 
 
 def session_words():

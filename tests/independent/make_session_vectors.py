@@ -7,18 +7,14 @@ so that every Python makes the same.
 import itertools
 import sys
 
-from replay_script import Replay, replay
+from replay_script import replay
+from resends_vectors import RESENDS_GROUPS
 from session_lines import (NEARLY_REDUNDANT, OPEN_REQUEST, REDUNDANT, REDUNDANT_OTHERWISE, REQUEST, RESPONSE,
                            TO_CONFIRMING, TO_OPENING, TO_UP, advisory, ok, open_response, opened_with, script_of,
                            session_ok, unreadable)
+from session_vector_parts import LASTS, STATES, WAYS_TO_WAIT, long_life
 from session_vector_text import Vector, output_to_text, vector_to_text
 
-# After these a fresh session with interval 100 is in the state. In `busy` heartbeat 3 and the pushes 4 and 5 are open.
-STATES = {
-    "waiting": (), "connecting": ("tick",), "opening": TO_OPENING, "confirming": TO_CONFIRMING, "up": TO_UP,
-    "busy": TO_UP + ("tick 100", "push 41", "advise 42"), "full": TO_UP + ("push 41", "advise 42") * 16,
-    "stopped": ("stop",),
-}
 CALLS = {
     "tick": "tick", "tick-20": "tick 20", "tick-300": "tick 300", "connected": "connected", "lost": "lost",
     "stop": "stop", "push": "push 9", "advise": "advise 9", "unreadable-7": "unreadable 7",
@@ -34,18 +30,6 @@ REFUSED_ALIKE = ("waiting", "connecting", "stopped")  # where every message is r
 FEW_CALLS = ("tick", "tick-300", "connected", "lost", "stop", "push", "advise", "unreadable-7", "unreadable-8",
              "no-message", "opened", "opened-redundant", "ok-2", "advisory")
 FATES = {"ok": ok(3), "advisory": advisory(3), "unreadable": unreadable(3), "lost": "lost", "stop": "stop"}
-LASTS = (0, 1, 2, 3, 4, 4294967293, 4294967294, 4294967295)
-
-# Each way into Waiting.
-WAYS_TO_WAIT = {
-    "connecting-lost": ("tick", "lost"), "opening-lost": TO_OPENING + ("lost",),
-    "opening-other": TO_OPENING + (open_response(""),), "opening-redundant": TO_OPENING + (REDUNDANT, "lost"),
-    "opening-runs-out": TO_OPENING + ("tick 20",), "confirming-lost": TO_CONFIRMING + ("lost",),
-    "confirming-advisory": TO_CONFIRMING + (advisory(2),), "confirming-runs-out": TO_CONFIRMING + ("tick 20",),
-    "up-lost": TO_UP + ("lost",), "busy-lost": STATES["busy"] + ("lost",),
-    "busy-runs-out": STATES["busy"] + ("tick 20",), "full-lost": STATES["full"] + ("lost",),
-    "full-runs-out": STATES["full"] + ("tick 120",),
-}
 
 # The conducts, as they come into the names of vectors, and the settings that say so.
 CONDUCTS = {"default": (), "new": ("conduct new",), "old": ("conduct old",)}
@@ -183,33 +167,14 @@ def settings_of_conduct():
                                                                   "connected", REDUNDANT))
 
 
-def long_life(interval):
-    """Many heartbeats, all answered, and pushes at every distance from them, each with another fate in turn."""
-    model, lines = Replay(), []
-
-    def write(*more):
-        for line in more:
-            lines.append(line)
-            model.take_line(line.encode("ascii"))
-
-    write("interval %d" % interval, *TO_UP)
-    for turn in range(40):
-        write("push %d" % turn, "advise %d" % (turn + 100), "tick %d" % (turn % 7 + 1))
-        fate, session = (ok, advisory, unreadable)[turn % 3], model.session
-        write(*(fate(push.number) for push in session.pushes[turn % 4::4]), "tick %d" % (turn % 5 + 1))
-        if session.session_ok is not None:
-            write((ok, advisory)[turn % 2](session.session_ok))
-    return lines
-
-
 def long_lives():
     for interval in (21, 22, 37, 40, 100):
-        yield "life-%d" % interval, long_life(interval)
+        yield "life-%d" % interval, long_life("interval %d" % interval)
 
 
 GROUPS = (every_call_in_every_state, fates_of_pushes, pushes_about_heartbeats, late_confirming, numbers_taken,
           numbers_of_what_is_closed, full_tables, ways_to_wait, long_lives, redundant_in_every_state, statuses,
-          redundant_after_ticks, redundant_after_last, conducts_kept, settings_of_conduct)
+          redundant_after_ticks, redundant_after_last, conducts_kept, settings_of_conduct) + RESENDS_GROUPS
 
 
 def all_vectors():

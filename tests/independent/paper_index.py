@@ -29,8 +29,8 @@ PAPERS = (("Document 01", DOCUMENT_01), ("Document 02", DOCUMENT_02), ("Rulings"
 
 
 def link_to_captured(captured):
-    return "[%s](../tests/vectors/%s) (`%s`)" % (
-        os.path.basename(captured.file), captured.file, "`, `".join(captured.settings))
+    settings = ", ".join("`%s`" % setting for setting in captured.settings) or "none"
+    return "[%s](../tests/vectors/%s) (%s)" % (os.path.basename(captured.file), captured.file, settings)
 
 
 PLACES = {
@@ -49,7 +49,9 @@ PLACES = {
              "([compare_items.py](../tests/compare_items.py))",
     "replay": "a script written by hand ([session_examples.py](../tests/independent/session_examples.py), "
               "[conduct_examples.py](../tests/independent/conduct_examples.py), "
+              "[resends_examples.py](../tests/independent/resends_examples.py), "
               "[replay_examples.py](../tests/independent/replay_examples.py), "
+              "[resends_setting_examples.py](../tests/independent/resends_setting_examples.py), "
               "[paper_runs.py](../tests/independent/paper_runs.py)): model and `replay` "
               "([compare_replay.py](../tests/compare_replay.py))",
     "model": "a test of the model alone ([session_self_tests.py](../tests/independent/session_self_tests.py), "

@@ -100,10 +100,10 @@ THE_SEVEN_MESSAGES = ("The seven messages", (
 ))
 
 PAIRS = tuple(
-    ("%s with %s" % (state.capitalize(), kind), "session:%s-%s" % (state, call), "replay:every kind in " + state.capitalize())
-    for state in ("opening", "confirming", "up") for kind, call in (
-        ("SessionOpenRequest", "open-request"), ("SessionOpenResponse", "opened"), ("SessionOk", "session-ok"),
-        ("Ok", "ok-2"), ("Advisory", "advisory"), ("Request", "request"), ("Response", "response")))
+    ("%s with each of the seven kinds" % state.capitalize(),
+     *("session:%s-%s" % (state, call) for call in (
+         "open-request", "opened", "session-ok", "ok-2", "advisory", "request", "response")),
+     "replay:every kind in " + state.capitalize()) for state in ("opening", "confirming", "up"))
 
 THE_SESSION = ("The session", (
     ("fresh: Waiting, one tick left", "replay:fresh", "replay:the first tick connects"),

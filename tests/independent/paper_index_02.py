@@ -2,13 +2,68 @@
 request stands here from its landing on.
 """
 
+M_105 = ("M-105. How often to resend", (
+    ("a figure from 0 to 3, held beside the interval", "replay:resends given: *", "replay:three settings: *",
+     "replay:a Response in silence after *, resends *", "model:making with resends", "session:resends-*-kept-*"),
+    ("each open push counts its sendings", "replay:each counts by itself, resends 2",
+     "replay:the table moves and the counts stay, resends 3", "session:resends-*-several-*",
+     "model:by hand: CountsAllPushesTogether", "model:by hand: CountsAsTheFirstPush"),
+    ("closed by the end of tick 20 × (resends + 1), sent at most resends + 1 times",
+     "replay:a Response in silence, resends *", "replay:a Response a tick before its end, resends *",
+     "replay:UnreadableMessage again and again, resends *", "session:resends-*-push-silence",
+     "model:by hand: SendsOnceTooOften", "model:by hand: SendsThreeTimesAtMost"),
+    ("sent resends + 1 times: as one sent twice was; a Response sent fewer times: as one sent once was",
+     "replay:an Ok 19 ticks after resend *", "replay:an Ok after the end, resends *",
+     "replay:an Advisory of another type 19 ticks after resend *", "session:resends-*-fate-*"),
+    ("a sending after the first: 20 ticks after the one before, or on an UnreadableMessage",
+     "replay:a Response a tick before its * resend, resends *", "replay:UnreadableMessage in the last tick*",
+     "replay:what does not name the push uses no sending up, resends 3", "session:resends-*-by-*",
+     "model:by hand: LaterResendComesAtTick19"),
+    ("Advisory pushes are still sent once", "replay:an Advisory push in silence, resends *",
+     "replay:UnreadableMessage at tick 5 for an Advisory push, resends *", "session:resends-*-advise-*",
+     "model:by hand: AdvisoriesCountLikeResponses"),
+    ("18, resends above 3, checked after 4", "replay:resends 4", "replay:a making refused: *",
+     "model:by hand: Checks18Before4"),
+))
+
+M_105_RULINGS = ("M-105, rulings", (
+    ("`interval 20` with `resends 4`: 4; both refusals leave the same record; Stop keeps the figure",
+     "replay:a making refused: interval 20, resends 4", "model:refused making", "model:stop keeps"),
+    ("the table of times: a Response in silence", *("replay:a Response in silence, resends %d" % figure
+                                                    for figure in range(4))),
+    ("the table of times: UnreadableMessage at tick 5, then silence",
+     *("replay:UnreadableMessage at tick 5, then silence, resends %d" % figure for figure in range(4))),
+    ("the table of times: an Advisory push; UnreadableMessage for one", "replay:an Advisory push in silence, resends *",
+     "replay:UnreadableMessage at tick 5 for an Advisory push, resends *"),
+    ("an UnreadableMessage uses a sending up and brings the end nearer", "replay:all resends at once, then silence, *",
+     "replay:UnreadableMessage, time, UnreadableMessage, *",
+     "replay:UnreadableMessage after a resend by time, resends *", "model:by hand: ResendByUnreadableIsNotCounted",
+     "model:by hand: UnreadableDoesNotBringTheEndNearer"),
+    ("a resend keeps number, handle and order, and takes no number", "replay:a resend keeps the order, resends 2",
+     "replay:a resend by * takes no number, resends 3",
+     "replay:the greatest number and handle at every sending, resends 3", "session:resends-3-last-*"),
+    ("at most 34 events still", "replay:34 events of a stop, resends 3", "replay:33 events of a tick, and 34 *",
+     "replay:32 closed in the tick of a heartbeat, resends 3", "session:resends-*-full*"),
+    ("what is no push is never sent again", "replay:a lost opening ends after 20 ticks, resends *",
+     "replay:a SessionOk of Confirming ends after 20 ticks, resends *",
+     "replay:a heartbeat ends after 20 ticks, resends *", "session:resends-*-runs-out"),
+    ("the old conduct does not fix the figure", "replay:conduct old, resends *", "replay:resends *, conduct old: *",
+     "session:old-then-resends-*", "model:by hand: OldConductFixesTheResends"),
+    ("`resends N`, 1 where absent", "replay:resends given: none", "replay:* leaves 1 resend",
+     "model:one resend where absent", "model:figures tell apart", "captured:before-M-105-*",
+     "model:session.txt before M-105"),
+    ("above 3: `stop 18` (after 4); a line that is no well-formed `resends`, or comes too late",
+     "replay:our reading: resends *", "replay:no resends: *", "replay:no resends after 0: *",
+     "replay:resends while a push is open*", "session:settings-resends-*"),
+))
+
 M_110 = ("M-110. RedundantSession goes", (
     ("it counts like any other unknown status: disconnect, wait 300 ticks", "replay:RedundantSession in Opening, new*",
      "replay:RedundantSession, then exactly 300 ticks, *", "replay:any other status does not, new*",
      "session:opening-opened-redundant", "session:status-*"),
     ("round after round", "replay:RedundantSession round after round, new*", "session:kept-default-opening-redundant"),
-    ("captured sessions keep their meaning under the old conduct", "captured:*", "model:session-before-M-110.txt: *",
-     "replay:RedundantSession in Opening, old"),
+    ("captured sessions keep their meaning under the old conduct", "captured:by-hand-*", "captured:at-random-*",
+     "model:*-before-M-110.txt: *", "replay:RedundantSession in Opening, old"),
     ("the conduct is named", "replay:conducts given: new", "replay:conducts given: old"),
     ("it is chosen when the session is made, and kept",
      "replay:RedundantSession at the second opening after *", "replay:RedundantSession round after round, old",
@@ -44,4 +99,4 @@ M_110_RULINGS = ("M-110, rulings", (
      "model:session-before-M-110.txt: what answers otherwise", "captured:opening-opened-redundant"),
 ))
 
-DOCUMENT_02 = (M_110, M_110_RULINGS)
+DOCUMENT_02 = (M_105, M_105_RULINGS, M_110, M_110_RULINGS)

@@ -26,7 +26,8 @@ REPLAY = ("replay", (
     ("`interval N`; 100 where absent; the last counts", "replay:interval 22", "replay:no interval is 100",
      "replay:the last interval counts"),
     ("what ends the settings; one that comes later", "replay:a setting after a call", "replay:a setting after a bad line",
-     "replay:no setting: *", "replay:a conduct after a call", "replay:no conduct: *"),
+     "replay:no setting: *", "replay:a conduct after a call", "replay:no conduct: *", "replay:resends after a call",
+     "replay:no resends: *"),
     ("`tick`, `tick N`, 1 to 1,000,000", "replay:tick and tick 1", "replay:a million ticks", "replay:bad lines"),
     ("`connected`, `lost`, `stop`", "replay:lost in Opening", "replay:stop in Opening"),
     ("`push H`, `advise H`, 0 to 4294967295", "replay:any handles", "replay:the greatest numbers", "replay:bad lines"),
@@ -112,7 +113,8 @@ DOCUMENT_004 = (("3 and 5, samples and values", tuple(
 # What stands in the papers and is not run, and why.
 NOT_RUN = (
     ("01: refusal 27", "a record that fails the test can be handed in by no program outside; the proofs cover it"),
-    ("02, M-110: 27 asks nothing of the conduct", "as refusal 27 itself"),
+    ("02, M-105 and M-110: what 27 asks of the resends and the sendings, and that it asks nothing of the conduct",
+     "as refusal 27 itself"),
     ("01: an event list shorter than 40, in the real session", "the list lies inside `replay`; the model's test covers the rule"),
     ("01: CR LF as one LF or one space in a value", "no value with a meaning holds white space, so only \"other\" is seen"),
     ("Rulings: `end` caps with the count", "it takes a stream of 4 GiB; framing's `cap-*` run the count itself"),

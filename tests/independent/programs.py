@@ -81,7 +81,7 @@ class ProgramComparison(NamedTuple):
     cases: int  # how many of it, unless told otherwise
     model: Callable  # gives the output due for an input
     by_hand: Tuple  # name, input and output of what was written by hand
-    stopped: bytes  # how the output ends where the program refused to begin
+    stopped: Tuple[bytes, ...]  # how the output ends where the program refused to begin
 
     def read_arguments(self):
         parser = parser_of_comparison(self.description, self.thing, self.cases)

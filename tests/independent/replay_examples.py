@@ -1,5 +1,6 @@
 """Scripts about the forms of lines with the output due, from the page about interfaces ("replay") and the rulings on
-M-110, which adds a setting. Nothing was found by running anything.
+M-110, which adds a setting. Nothing was found by running anything. The setting that M-105 adds has its own module,
+`resends_setting_examples`.
 
 Where the page leaves room, the name of the script begins with `our reading`.
 """
@@ -41,7 +42,14 @@ NO_CONDUCTS = (
     b"conduct 'old'", b"conduct \"new\"", b"conduct 0", b"conduct 1", b"conduct 100", b"conduct other", b"conduct -",
     b"new", b"old",
 )
-NO_SETTINGS = NO_INTERVALS + NO_CONDUCTS
+NO_RESENDS = (
+    b"resends", b"resends ", b"resends 00", b"resends 01", b"resends 03", b"resends 04", b"resends -1", b"resends -0",
+    b"resends +2", b"resends  2", b"resends 2 ", b"resends 2\r", b"resends 2\t", b"resends 2\0", b"resends\t2",
+    b"resends 2 2", b"resends 2x", b"resends 2.0", b"resends 0x2", b"resends 2,", b"resends two", b"resends \xd9\xa2",
+    b"resends O", b"Resends 2", b"RESENDS 2", b" resends 2", b"\xef\xbb\xbfresends 2", b"resends=2", b"resends: 2",
+    b"resends2", b"resend 2", b"resent 2", b"resendss 2", b"resends new", b"resends old",
+)
+NO_SETTINGS = NO_INTERVALS + NO_CONDUCTS + NO_RESENDS
 
 
 def form(name, script, *told):

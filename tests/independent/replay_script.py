@@ -40,7 +40,7 @@ def number_between(text, least, most):
 
 # The settings, each by the field of the site that it sets; what stands after the one space gives its value, or None
 # where the setting is not well formed.
-SETTINGS = {b"interval": number_from, b"conduct": {b"new": NEW, b"old": OLD}.get}
+SETTINGS = {b"interval": number_from, b"conduct": {b"new": NEW, b"old": OLD}.get, b"resends": number_from}
 
 
 def lines_of(script):
@@ -70,7 +70,7 @@ class Replay:
             self.output.append("line %d bad" % self.line_number)
 
     def take_setting(self, line):
-        """Says whether the line is a well-formed setting. An interval may be any: it is the making that refuses."""
+        """Says whether the line is a well-formed setting. A number in it may be any: it is the making that refuses."""
         word, _, text = line.partition(b" ")
         value = SETTINGS[word](text) if word in SETTINGS and len(line) <= LONGEST_LINE else None
         if value is None:

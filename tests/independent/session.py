@@ -1,10 +1,11 @@
 """The provider's session, written from the papers alone, to hold the real code against.
 
-Document 01 ("The session", "Numbers of refusal"), document 02 (M-110) and the rulings on the session, against an
+Document 01 ("The session", "Numbers of refusal"), document 02 (M-105, M-110) and the rulings on the session, against an
 absolute clock: the session numbers the ticks it accepts, and whatever waits is noted with the number of the tick at
-which it is due. Nothing is counted down, so a mistake in a countdown is not made here too.
+which it is due, or of the ticks at which it was sent. Nothing is counted down, so a mistake in a countdown is not made
+here too.
 
-    session = Session(Site(interval))    session.refusal is 4 where the making was refused
+    session = Session(Site(interval))    session.refusal is 4 or 18 where the making was refused
     session.call("tick")                 the refusal, or 0, and the list of events
 
 The other calls: "connected", "lost", "stop", "push_response" and "push_advisory" with the host's handle, "message" with
@@ -13,7 +14,7 @@ the reader's answer, "unreadable" with a refusal handed in.
 
 import dataclasses
 import itertools
-from typing import NamedTuple, Optional
+from typing import List, NamedTuple
 
 from reader_answer import VALUES, kind_name
 
@@ -28,11 +29,15 @@ TAKE_A_NUMBER = (SEND_OPEN_REQUEST, SEND_SESSION_OK, SEND_RESPONSE, SEND_ADVISOR
 
 LIST_SHORT, BAD_INTERVAL, IS_STOPPED, DOES_NOT_FIT, TABLE_FULL = range(3, 8)
 READER_REFUSALS = range(8, 15)
+BAD_RESENDS = 18
 
 CONDUCTS = NEW, OLD = "new", "old"
 
 PLACES_NEEDED = 40
 LEAST_INTERVAL, MOST_INTERVAL = 21, 6000
+RESENDS_WHERE_NONE_ARE_NAMED, MOST_RESENDS = 1, 3
+FIGURES = range(MOST_RESENDS + 1)  # of resends, that a site may choose
+SENDINGS_OF_AN_ADVISORY = 1
 MOST_PUSHES = 32
 GREATEST_NUMBER = 4294967295
 TICKS_TO_ANSWER = 20
@@ -79,9 +84,10 @@ class Site(NamedTuple):
 
     interval: int
     conduct: str = NEW
+    resends: int = RESENDS_WHERE_NONE_ARE_NAMED
 
 
-SITE_OF_A_REFUSED_MAKING = Site(LEAST_INTERVAL)
+SITE_OF_A_REFUSED_MAKING = Site(LEAST_INTERVAL, NEW, resends=0)
 
 
 class Event(NamedTuple):
@@ -94,8 +100,17 @@ class Event(NamedTuple):
 class Push:
     number: int
     handle: int
-    resend_due: Optional[int]  # None where it will not be sent again
-    close_due: int
+    most_sendings: int
+    sent_at: List[int]  # the clock at each sending
+
+    @property
+    def due(self):
+        """The tick at which the time to answer the last sending is over."""
+        return self.sent_at[-1] + TICKS_TO_ANSWER
+
+    @property
+    def may_be_sent_again(self):
+        return len(self.sent_at) < self.most_sendings
 
 
 def value_of(answer, name):
@@ -112,7 +127,9 @@ def number_named(value):
 
 
 def refusal_of_making(site):
-    return 0 if LEAST_INTERVAL <= site.interval <= MOST_INTERVAL else BAD_INTERVAL
+    if not LEAST_INTERVAL <= site.interval <= MOST_INTERVAL:
+        return BAD_INTERVAL
+    return BAD_RESENDS if site.resends > MOST_RESENDS else 0
 
 
 class Session:
@@ -187,9 +204,15 @@ class Session:
         self.pushes.remove(push)
         self.tell(code, push.number, push.handle)
 
+    def send_again_or_close(self, push, code):
+        if push.may_be_sent_again:
+            self.send_again(push)
+        else:
+            self.close(push, code)
+
     def send_again(self, push):
+        push.sent_at.append(self.clock)
         self.tell(SEND_RESPONSE_AGAIN, push.number, push.handle)
-        push.resend_due, push.close_due = None, self.clock + TICKS_TO_ANSWER
 
     # The calls.
 
@@ -199,10 +222,8 @@ class Session:
             self.run_out()
             return
         for push in list(self.pushes):
-            if self.clock == push.resend_due:
-                self.send_again(push)
-            elif self.clock == push.close_due:
-                self.close(push, TIMED_OUT)
+            if self.clock == push.due:
+                self.send_again_or_close(push, TIMED_OUT)
         if self.clock == self.heartbeat_due:
             self.send_session_ok()
 
@@ -224,13 +245,13 @@ class Session:
         self.leave(FAREWELL_OF_STOP.get(self.state, ()), STOPPED)
 
     def push_response(self, handle):
-        number = self.send(SEND_RESPONSE, handle)
-        resend_due = self.clock + TICKS_TO_ANSWER
-        self.pushes.append(Push(number, handle, resend_due, resend_due + TICKS_TO_ANSWER))
+        self.push(SEND_RESPONSE, handle, self.site.resends + 1)
 
     def push_advisory(self, handle):
-        number = self.send(SEND_ADVISORY, handle)
-        self.pushes.append(Push(number, handle, None, self.clock + TICKS_TO_ANSWER))
+        self.push(SEND_ADVISORY, handle, SENDINGS_OF_AN_ADVISORY)
+
+    def push(self, code, handle, most_sendings):
+        self.pushes.append(Push(self.send(code, handle), handle, most_sendings, [self.clock]))
 
     def unreadable(self, refusal):
         self.tell(UNREADABLE, 0, refusal)
@@ -283,8 +304,8 @@ class Session:
             self.tell(ADVISORY_ARRIVED)
 
     def hear_objection(self, push, meaning):
-        if meaning == UNREADABLE_MESSAGE and push.resend_due is not None:
-            self.send_again(push)
+        if meaning == UNREADABLE_MESSAGE:
+            self.send_again_or_close(push, ADVISED)
         else:
             self.close(push, ADVISED)
 

@@ -1,5 +1,6 @@
-"""Files of session vectors as they were recorded before a request changed what a session does where nothing is said.
-Each keeps its meaning under the settings of its row. They are never made again: their bytes are held by a hash.
+"""Files of session vectors as they were recorded before a request. Each keeps its meaning under the settings of its
+row, which are none where the request changed nothing for a script that does not ask for it. They are never made again:
+their bytes are held by a hash.
 
 A setting put in front is a line more, and `line L bad` counts all lines. So what is printed is told as the script alone
 would have it, with that many taken away from each L, and then has to be what was recorded, byte for byte.
@@ -12,6 +13,7 @@ from typing import NamedTuple, Tuple
 
 from checks import TOP, equal, vectors_of
 from replay_script import replay
+from resends_sightings import RESENDS_ARE_SAID
 from session_lines import script_of
 from session_sightings import OPENED_BY_REDUNDANT, WatchedReplay
 from session_vector_text import output_to_text, vector_from_text
@@ -29,8 +31,9 @@ class Captured(NamedTuple):
     numbering_lines: int  # how many have a `line L bad` in their output
 
 
-# The fixed vectors of before, and what the program of before printed for the scripts that were written by hand and for
-# 48 at random.
+# Of M-110: the fixed vectors of before, and what the program of before printed for the scripts that were written by
+# hand and for 48 at random. Of M-105: what it printed for 80 at random; the fixed vectors of before begin
+# those of today (`BEGINNINGS`), and the scripts by hand are still there.
 CAPTURED = (
     Captured(file="captured/session-before-M-110.txt", vectors=454,
              sha256="250509231d63081013fdc9af867f62e015412e80f295b783f7676cc3875f80a6", settings=("conduct old",),
@@ -38,6 +41,23 @@ CAPTURED = (
     Captured(file="captured/scripts-before-M-110.txt", vectors=240,
              sha256="c88e73774aa4962e5a9d82036bdb592bf6cf09b4bd8543278ca0aff7065e6285", settings=("conduct old",),
              otherwise=36, sighting=OPENED_BY_REDUNDANT, numbering_lines=30),
+    Captured(file="captured/scripts-before-M-105.txt", vectors=80,
+             sha256="7c94ec22f62f48edfa7d98583abf0ebace1480e8f892ea40007053a97a52889b", settings=(),
+             otherwise=0, sighting=RESENDS_ARE_SAID, numbering_lines=13),
+)
+
+
+class Beginning(NamedTuple):
+    request: str
+    vectors: int
+    sha256: str
+
+
+# The whole of session.txt before a request that only added to it. A copy would be the same lines a second time, so a
+# hash holds them where they are; they are made again, and run, with the others.
+VECTORS = "session.txt"
+BEGINNINGS = (
+    Beginning("M-105", 657, "1e979d2aa2d9d1750bdd2b40911cc31686139c1a5ea742e46aa62fba6f87caf8"),
 )
 
 
@@ -58,6 +78,12 @@ def test_bytes(captured):
     with open(os.path.join(TOP, "tests", "vectors", captured.file), "rb") as file:
         equal(hashlib.sha256(file.read()).hexdigest(), captured.sha256, "the hash of " + captured.file)
     equal(len(captured_vectors(captured)), captured.vectors, "vectors of " + captured.file)
+
+
+def test_beginning(beginning):
+    lines = vectors_of(VECTORS)[:beginning.vectors]
+    equal(hashlib.sha256("".join(line + "\n" for line in lines).encode("ascii")).hexdigest(), beginning.sha256,
+          "the hash of the first %d lines of %s" % (beginning.vectors, VECTORS))
 
 
 def test_vector(captured, vector):
@@ -98,6 +124,8 @@ def test_told_without():
 def captured_tests():
     """Names and calls of the model's tests on all captured files."""
     yield "lines numbered without settings", test_told_without
+    for beginning in BEGINNINGS:
+        yield "%s before %s" % (VECTORS, beginning.request), lambda beginning=beginning: test_beginning(beginning)
     for captured in CAPTURED:
         name = os.path.basename(captured.file)
         yield name + ": bytes", lambda captured=captured: test_bytes(captured)

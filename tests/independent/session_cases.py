@@ -8,17 +8,20 @@ prints the script of that number, as tests/compare_replay.py runs it.
 import random
 import sys
 
-from replay_examples import NO_CONDUCTS
-from session import CONDUCTS, UP
+from replay_examples import NO_CONDUCTS, NO_RESENDS
+from session import CONDUCTS, MOST_RESENDS, UP
 from session_lines import script_of
 from session_writer import Writer
 
 INTERVALS = (21, 21, 22, 23, 40, 40, 41, 60, 99, 100, 100, 257, 1000, 6000)
 REFUSED_INTERVALS = (0, 1, 20, 6001, 65557, 4294967295)
+REFUSED_RESENDS = (4, 4, 5, 10, 256, 65539, 4294967295, 4294967296, 4294967297, 4294967299, 18446744073709551617)
+REFUSED = {"interval": REFUSED_INTERVALS, "resends": REFUSED_RESENDS}
+AFTER_A_REFUSED_MAKING = ("tick", "x", "interval 100", "conduct old", "resends 1", "", "stop")
 
 EVERYDAY = {Writer.wait_for_something: 8, Writer.wait_a_little: 4, Writer.push_some: 8, Writer.answer_push: 6,
             Writer.object_to_push: 2, Writer.object_unreadable: 3, Writer.answer_session_ok: 4, Writer.name_nothing: 2,
-            Writer.say_anything: 2, Writer.hand_in: 1, Writer.await_heartbeat: 2}
+            Writer.say_anything: 2, Writer.hand_in: 1, Writer.await_heartbeat: 2, Writer.wear_out: 3}
 
 # What a script does more often than the others.
 STYLES = (
@@ -32,24 +35,27 @@ STYLES = (
     {Writer.call_anything: 20, Writer.say_anything: 10},
     {Writer.write_badly: 12, Writer.call_anything: 4},
     {Writer.open_again: 12, Writer.set_last: 3},
+    {Writer.wear_out: 30, Writer.lose: 3},
 )
 
 
 def interval_line(writer):
-    interval = writer.rng.choice(INTERVALS) if writer.chance(0.8) else writer.rng.randint(21, 300)
-    if writer.chance(0.05):
-        interval = writer.rng.choice(REFUSED_INTERVALS)
-    return "interval %d" % interval
+    return "interval %d" % (writer.rng.choice(INTERVALS) if writer.chance(0.8) else writer.rng.randint(21, 300))
 
 
 def write_settings(writer):
-    """Settings in any order, each perhaps more than once; now and then a line that is none ends them early."""
+    """Settings in any order, each perhaps more than once; now and then a figure that is refused, unless a later line
+    gives another, and a line that is no setting and ends them early."""
     rng = writer.rng
     lines = [interval_line(writer) for _ in range(rng.choice((0, 1, 1, 1, 1, 2)))]
     lines += ["conduct " + rng.choice(CONDUCTS) for _ in range(rng.choice((0, 0, 1, 1, 1, 2)))]
+    lines += ["resends %d" % rng.randint(0, MOST_RESENDS) for _ in range(rng.choice((0, 1, 1, 1, 1, 2)))]
     rng.shuffle(lines)
-    if writer.chance(0.08):
-        lines.insert(rng.randint(0, len(lines)), rng.choice(NO_CONDUCTS).decode("latin-1"))
+    for word in rng.choices(((), ("interval",), ("resends",), ("resends", "interval")), (82, 4, 7, 7))[0]:
+        place = rng.randint(0, len(lines)) if writer.chance(0.3) else len(lines)
+        lines.insert(place, "%s %d" % (word, rng.choice(REFUSED[word])))
+    if writer.chance(0.12):
+        lines.insert(rng.randint(0, len(lines)), rng.choice(NO_CONDUCTS + NO_RESENDS).decode("latin-1"))
     for line in lines:
         writer.write(*[""] * rng.choice((0, 0, 0, 1)), line)
 
@@ -80,7 +86,7 @@ def random_script(rng, number):
     writer = Writer(rng)
     write_settings(writer)
     if writer.session.refusal:
-        writer.write(*rng.choices(("tick", "x", "interval 100", "conduct old", "", "stop"), k=rng.randint(0, 5)))
+        writer.write(*rng.choices(AFTER_A_REFUSED_MAKING, k=rng.randint(0, 5)))
         return script_of(writer.lines)
     moves = {**EVERYDAY, **STYLES[number % len(STYLES)]}
     if writer.chance(0.2):

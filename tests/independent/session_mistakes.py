@@ -1,11 +1,12 @@
 """Sessions that are wrong, to test the tests: each is a mistake that looks right, and some script must show it.
 
 The first ones stand in document 01 ("Errors that look right"), the others turn round a rule or a ruling each. The ones
-about the conduct are in `conduct_mistakes`.
+about the conduct are in `conduct_mistakes`, those about the number of resends in `resends_mistakes`.
 """
 
 import session
 from conduct_mistakes import CONDUCT_MISTAKES
+from resends_mistakes import RESENDS_MISTAKES
 from session import (ACKNOWLEDGED, ADVISED, CONFIRMING, DISCONNECT, LOST, OPENING, SEND_GOING_OUT, STOPPED, UNMATCHED,
                      UP, WAITING, Session, number_named, value_of)
 
@@ -30,34 +31,32 @@ class RestartsWhenTheTableMoves(Session):
         place = self.pushes.index(push)
         super().close(push, code)
         for later in self.pushes[place:]:
-            later.close_due = self.clock + 20
+            later.sent_at[-1] = self.clock
 
 
 class SendsAdvisoriesAgain(Session):
     def push_advisory(self, handle):
         super().push_advisory(handle)
-        self.pushes[-1].resend_due, self.pushes[-1].close_due = self.clock + 20, self.clock + 40
+        self.pushes[-1].most_sendings = 2
 
 
 class PushesHave21Ticks(Session):
     def push_response(self, handle):
         super().push_response(handle)
-        self.pushes[-1].resend_due += 1
-        self.pushes[-1].close_due += 1
+        self.pushes[-1].sent_at[-1] += 1
 
 
 class ResendHas21Ticks(Session):
     def send_again(self, push):
         super().send_again(push)
-        push.close_due += 1
+        push.sent_at[-1] += 1
 
 
 class ObjectionDoesNotRestart(Session):
     def hear_objection(self, push, meaning):
-        due = push.resend_due
+        sent_at = push.sent_at[-1]
         super().hear_objection(push, meaning)
-        if due is not None:
-            push.close_due = due
+        push.sent_at[-1] = sent_at
 
 
 class ResendsWithoutEnd(Session):
@@ -139,7 +138,7 @@ class HeartbeatGoesFirst(Session):
 class PushesGoBeforeTheTimer(Session):
     def run_out(self):
         for push in list(self.pushes):
-            if self.clock in (push.resend_due, push.close_due):
+            if self.clock == push.due:
                 self.close(push, session.TIMED_OUT)
         super().run_out()
 
@@ -225,5 +224,5 @@ class TicksWhileConnecting(Session):
             super().run_out()
 
 
-MISTAKES = tuple(value for value in list(vars().values())
-                 if isinstance(value, type) and issubclass(value, Session) and value is not Session) + CONDUCT_MISTAKES
+MISTAKES = tuple(value for value in list(vars().values()) if isinstance(value, type) and issubclass(
+    value, Session) and value is not Session) + CONDUCT_MISTAKES + RESENDS_MISTAKES

@@ -12,9 +12,10 @@ from checks import Difference, compare_vectors_written_again, equal
 from reader_answer import KINDS, NOT_THERE, VALUES, Answer, Value
 from replay_script import Replay, replay
 from scripts_by_hand import SCRIPTS_BY_HAND
-from session import (ACKNOWLEDGED, ADVISED, CONDUCTS, FITS, LINKED, LOST, MOST_PUSHES, NEW, SEND_ADVISORY,
-                     SEND_RESPONSE, SEND_RESPONSE_AGAIN, STATES, STOPPED, TIMED_OUT, UP, Session, Site)
-from session_captured import captured_tests, with_settings
+from resends_sightings import OF_RESENDS, USED_UP
+from session import (ACKNOWLEDGED, ADVISED, CONDUCTS, FIGURES, FITS, LINKED, LOST, MOST_PUSHES, NEW, SEND_ADVISORY,
+                     SEND_RESPONSE, SEND_RESPONSE_AGAIN, STATES, STOPPED, TIMED_OUT, UP, WAITING, Session, Site)
+from session_captured import captured_tests, told_without, with_settings
 from session_cases import script_numbered
 from session_lines import TO_CONFIRMING, TO_OPENING, TO_UP, script_of
 from session_mistakes import MISTAKES
@@ -22,7 +23,7 @@ from session_sightings import OPENED_BY_REDUNDANT, TO_SEE, WatchedReplay
 from session_vector_text import vector_from_text, vector_to_text
 
 SEED = 911  # the model does not change from run to run, so neither need its tests
-SCRIPTS = 80
+SCRIPTS = 165  # of each style fifteen
 SHORT_SCRIPT = 2000
 
 GIVEN = {"push_response": (7,), "push_advisory": (7,), "unreadable": (9,), "message": (
@@ -52,27 +53,40 @@ def test_short_list(state):
             equal(vars(session), before, "what is left by a refused " + what)
 
 
+BAD_INTERVALS, GOOD_INTERVALS = (0, 20, 6001, 4294967295), (21, 100, 6000)
+BAD_FIGURES = (4, 5, 255, 256, 4294967295)
+
+
 def test_refused_making():
-    for interval, conduct in itertools.product((0, 20, 6001, 4294967295), CONDUCTS):
-        session = Session(Site(interval, conduct))
+    """4 is looked at before 18, and both leave the same."""
+    refused = [(4, site) for site in itertools.product(BAD_INTERVALS, CONDUCTS, (*FIGURES, *BAD_FIGURES))]
+    refused += [(18, site) for site in itertools.product(GOOD_INTERVALS, CONDUCTS, BAD_FIGURES)]
+    for refusal, site in refused:
+        session = Session(Site(*site))
         equal((session.refusal, session.state, session.site, session.last, session.session_ok, session.pushes),
-              (4, STOPPED, Site(21, NEW), 0, None, []), "interval %d, conduct %s" % (interval, conduct))
+              (refusal, STOPPED, Site(interval=21, conduct=NEW, resends=0), 0, None, []), "the making of %s" % (site,))
         for what in FITS:
             equal(session.call(what, *GIVEN.get(what, ())), (5, []), what)
 
 
 def test_making_without_conduct():
-    equal(Session(Site(100)).site, Site(interval=100, conduct=NEW), "a site that names no conduct")
+    equal(Session(Site(100)).site, Site(interval=100, conduct=NEW, resends=1), "a site that names the interval alone")
     for conduct in CONDUCTS:
         equal(Session(Site(100, conduct)).site, Site(100, conduct), "a site that names one")
 
 
+def test_making_with_resends():
+    for site in itertools.product(GOOD_INTERVALS, CONDUCTS, FIGURES):
+        session = Session(Site(*site))
+        equal((session.refusal, session.state, session.site), (0, WAITING, site), "the making of %s" % (site,))
+
+
 def test_stop_keeps():
-    for state, conduct in itertools.product(BEGINNINGS, CONDUCTS):
-        session = session_after(("interval 77", "conduct " + conduct) + BEGINNINGS[state])
+    for state, conduct, resends in itertools.product(BEGINNINGS, CONDUCTS, FIGURES):
+        session = session_after(("interval 77", "conduct " + conduct, "resends %d" % resends) + BEGINNINGS[state])
         last = session.last
         session.call("stop")
-        equal((session.state, session.site), (STOPPED, Site(77, conduct)), "stop in " + state)
+        equal((session.state, session.site), (STOPPED, Site(77, conduct, resends)), "stop in " + state)
         equal(session.last - last, 1 if state in LINKED else 0, "the numbers that stop takes in " + state)
     session = session_after(("interval 77",) + TO_UP + ("push 1", "stop"))
     equal((session.site.interval, session.last), (77, 4), "interval and last number")
@@ -84,6 +98,23 @@ def test_nothing_else_differs():
         new, old = WatchedReplay(), WatchedReplay()
         differ = new.run(with_settings(("conduct new",), script)) != old.run(with_settings(("conduct old",), script))
         equal(differ, old.seen[OPENED_BY_REDUNDANT] > 0, "whether the conducts differ in %.300r" % script)
+
+
+def test_figures_tell_apart():
+    """A figure and the next tell apart the scripts in which a Response is used up under the lesser, and no others."""
+    for script in (script for script, _ in short_by_hand() if b"resends" not in script):
+        for resends in FIGURES[:-1]:
+            lesser, greater = WatchedReplay(), WatchedReplay()
+            differ = lesser.run(with_settings(("resends %d" % resends,), script)) != greater.run(
+                with_settings(("resends %d" % (resends + 1),), script))
+            equal(differ, lesser.seen[USED_UP] > 0, "whether more resends than %d differ in %.300r" % (resends, script))
+
+
+def test_one_resend_where_absent():
+    settings = ("resends 1",)
+    for script in (script for script, _ in short_by_hand() if b"resends" not in script):
+        told = told_without(settings, replay(with_settings(settings, script)))
+        equal(told, replay(script), "resends 1 said for %.300r" % script)
 
 
 # After `TO_UP` and a push the Response 3 is open. An answer that no reader gives is taken as it stands: a value that is
@@ -128,6 +159,7 @@ class Audit(Replay):
         super().__init__()
         self.site_made = None
         self.sent_at = {}  # the open pushes by number: the clock at each sending
+        self.most_sendings = {}  # by number too
 
     def call(self, what, *given):
         before = copy.deepcopy(vars(self.session)) if what != "tick" else None
@@ -135,7 +167,7 @@ class Audit(Replay):
         if refusal and before:
             equal(vars(self.session), before, "what a refused call leaves")
         for event in events:
-            self.account(event)
+            self.account(event, what)
         if events or what != "tick":
             self.check_session(events)
         return refusal, events
@@ -144,18 +176,22 @@ class Audit(Replay):
         super().end_settings()
         self.site_made = self.session.site
 
-    def account(self, event):
+    def account(self, event, what):
         clock, number = self.session.clock, event.number
         if event.code in (SEND_RESPONSE, SEND_ADVISORY):
             if number in self.sent_at:
                 raise Difference("number %d is given twice" % number)
             self.sent_at[number] = [clock]
+            self.most_sendings[number] = self.site_made.resends + 1 if event.code == SEND_RESPONSE else 1
         elif event.code == SEND_RESPONSE_AGAIN:
+            if what == "tick":
+                equal(clock - self.sent_at[number][-1], 20, "ticks before push %d was sent again" % number)
             self.sent_at[number].append(clock)
         elif event.code in (ACKNOWLEDGED, ADVISED, TIMED_OUT, LOST):
             sent_at = self.sent_at.pop(number)
             if event.code == TIMED_OUT:
-                equal(clock - sent_at[-1], 20, "ticks before push %d timed out" % number)
+                equal((clock - sent_at[-1], len(sent_at)), (20, self.most_sendings[number]),
+                      "ticks and sendings before push %d timed out" % number)
 
     def check_session(self, events):
         session = self.session
@@ -167,8 +203,9 @@ class Audit(Replay):
         if session.session_ok in numbers:
             raise Difference("the SessionOk has a push's number")
         for number, sent_at in self.sent_at.items():
-            if len(sent_at) > 2 or session.clock - sent_at[-1] >= 20:
-                raise Difference("push %d, sent at %s, is open at %d" % (number, sent_at, session.clock))
+            most, clock = self.most_sendings[number], session.clock
+            if len(sent_at) > most or clock - sent_at[-1] >= 20 or clock - sent_at[0] >= 20 * most:
+                raise Difference("push %d, sent at %s, is open at %d" % (number, sent_at, clock))
 
 
 def test_promises():
@@ -214,7 +251,8 @@ def random_scripts():
 
 
 def scripts_of(vector_lines):
-    for line in vector_lines:
+    """The newest first: what is wrong about them is not met before."""
+    for line in reversed(vector_lines):
         script = vector_from_text(line).script
         yield script, replay(script)
 
@@ -223,14 +261,26 @@ def test_sightings_are_told_apart():
     equal(len(set(TO_SEE)), len(TO_SEE), "things to see")
 
 
+def test_vectors_meet_resends(vector_lines):
+    seen = set()
+    for line in vector_lines:
+        watched = WatchedReplay()
+        watched.run(vector_from_text(line).script)
+        seen |= set(+watched.seen)
+    equal([thing for thing in OF_RESENDS if thing not in seen], [], "what the vectors do not meet")
+
+
 def direct_tests():
     """What no script can show, or none alone."""
     for state in STATES:
         yield "a short event list in %s" % state, lambda state=state: test_short_list(state)
     yield "refused making", test_refused_making
     yield "making without conduct", test_making_without_conduct
+    yield "making with resends", test_making_with_resends
     yield "stop keeps", test_stop_keeps
     yield "nothing else differs", test_nothing_else_differs
+    yield "figures tell apart", test_figures_tell_apart
+    yield "one resend where absent", test_one_resend_where_absent
     yield "answers handed in", test_handed_in
 
 
@@ -240,6 +290,7 @@ def all_self_tests(vector_lines):
     yield from captured_tests()
     yield "promises", test_promises
     yield "sightings", test_sightings_are_told_apart
+    yield "sightings in the vectors", lambda: test_vectors_meet_resends(vector_lines)
     by_hand, by_chance, by_vectors = list(short_by_hand()), list(random_scripts()), list(scripts_of(vector_lines))
     for mistake in MISTAKES:
         yield "by hand: " + mistake.__name__, lambda mistake=mistake: test_noticed(mistake, by_hand)

@@ -4,16 +4,15 @@ import collections
 from typing import NamedTuple, Optional, Tuple
 
 from reader_answer import KINDS, kind_name
-from replay_examples import NO_CONDUCTS
-from replay_script import LONGEST_LINE, Replay
-from session import (ACKNOWLEDGED, ADVISED, ADVISORY_ARRIVED, CONFIRMING, CONNECT, DISCONNECT, FITS, GREATEST_NUMBER,
-                     LINKED, LOST, MOST_PUSHES, OLD, OPENING, READER_REFUSALS, REDUNDANT_SESSION, SEND_ADVISORY,
-                     SEND_RESPONSE, SEND_RESPONSE_AGAIN, SEND_SESSION_OK, STATES, TAKE_A_NUMBER, TIMED_OUT, UNREADABLE,
-                     UP, meaning_of, value_of)
+from replay_examples import NO_CONDUCTS, NO_RESENDS
+from replay_script import LONGEST_LINE, SETTINGS, Replay
+from resends_sightings import CLOSINGS, OF_RESENDS, PUSH_NAMES, RESENDS_ARE_SAID, PushWatch, cause_of
+from session import (ADVISORY_ARRIVED, BAD_INTERVAL, CONFIRMING, CONNECT, DISCONNECT, FITS, GREATEST_NUMBER, IS_UP,
+                     LINKED, LOST, MOST_PUSHES, MOST_RESENDS, OLD, OPENING, READER_REFUSALS, REDUNDANT_SESSION,
+                     SEND_SESSION_OK, STATES, TAKE_A_NUMBER, UNREADABLE, UP, meaning_of, value_of)
 
-CLOSINGS = {ACKNOWLEDGED: "acknowledged", ADVISED: "advised", TIMED_OUT: "timed out", LOST: "lost"}
 ENDED_BY = {"tick": "the timer", "lost": "lost", "stop": "stop"}
-PUSH_NAMES = {SEND_RESPONSE: "Response", SEND_ADVISORY: "Advisory push"}
+BAD_SETTINGS = {"conduct": NO_CONDUCTS, "resends": NO_RESENDS}
 
 # How a session came by its conduct.
 UNDER_OLD, UNDER_NEW_SAID, UNDER_NEW_BY_DEFAULT = UNDER = "under old", "under new said", "under new by default"
@@ -31,7 +30,7 @@ OF_CONDUCT = (
 # Everything that has to come up.
 TO_SEE = (
     ["state %s" % state for state in STATES] + ["event %d" % code for code in range(1, 20)]
-    + ["refusal %d" % refusal for refusal in (4, 5, 6, 7)]
+    + ["refusal %d" % refusal for refusal in (4, 5, 6, 7, 18)]
     + ["%s in %s" % (what, state) for what in FITS for state in STATES]
     + ["%s heard in %s" % (kind, state) for kind in KINDS for state in LINKED]
     + ["refusal %d told" % refusal for refusal in READER_REFUSALS]
@@ -47,7 +46,7 @@ TO_SEE = (
        "opening refused", "Advisory for the SessionOk in Confirming", "connected again", "bad line", "line too long",
        "empty line", "interval given twice", "interval given otherwise by a later line", "interval among the calls",
        "last set", "last line without LF"]
-    + OF_CONDUCT)
+    + OF_CONDUCT + OF_RESENDS)
 
 
 class Before(NamedTuple):
@@ -57,6 +56,10 @@ class Before(NamedTuple):
     last: int
     session_ok: Optional[int]
     pushes: Tuple[int, ...]
+
+
+def bad_settings(line):
+    return ["bad %s line" % name for name, lines in BAD_SETTINGS.items() if line in lines]
 
 
 def lies_between(number, last, taken):
@@ -71,13 +74,13 @@ class WatchedReplay(Replay):
         self.seen = collections.Counter()
         self.said = []  # the settings, as they were given
         self.link_was_lost = self.met_redundant = False
-        self.names = {}  # what the open pushes are, by number
-        self.resent_by = {}  # the open pushes that were sent again, by number: the call that did it
+        self.links = 0  # how often the session came up
+        self.push_watch = PushWatch(self.see)
 
     def call(self, what, *given):
         session = self.session
         before = Before(session.state, session.last, session.session_ok, tuple(push.number for push in session.pushes))
-        dues = [push.resend_due or push.close_due for push in session.pushes]
+        dues = [push.due for push in session.pushes]
         refusal, events = super().call(what, *given)
         self.seen["state " + session.state] += 1
         self.seen["%s in %s" % (what, before.state)] += 1
@@ -86,6 +89,7 @@ class WatchedReplay(Replay):
             self.seen["refusal %d" % refusal] += 1
         elif events or what != "tick":
             self.see_events(before, what, events, session.clock in dues)
+            self.see_pushes(events, cause_of(what, given))
             if what == "message":
                 self.see_message(before, given[0], events)
         return refusal, events
@@ -97,8 +101,6 @@ class WatchedReplay(Replay):
         codes = [event.code for event in events]
         self.see(*("event %d" % code for code in codes))
         self.see_numbers(before, events)
-        for event in events:
-            self.see_push(what, event)
         if LOST in codes:
             self.see("ended by %s with pushes open" % ENDED_BY[what])
             if what == "tick" and pushes_due:
@@ -127,20 +129,12 @@ class WatchedReplay(Replay):
             self.seen["number 0 taken"] += number == 0
             last = number
 
-    def see_push(self, what, event):
-        number = event.number
-        if event.code in PUSH_NAMES:
-            self.names[number] = PUSH_NAMES[event.code]
-        elif event.code == SEND_RESPONSE_AGAIN:
-            self.resent_by[number] = "time" if what == "tick" else "UnreadableMessage"
-            self.see("resent by " + self.resent_by[number])
-        elif event.code in CLOSINGS:
-            closing, resent_by = CLOSINGS[event.code], self.resent_by.pop(number, None)
-            self.see("%s %s" % (self.names.pop(number), closing))
-            if resent_by:
-                self.see("%s after a resend" % closing, "%s after a resend by %s" % (closing, resent_by))
-        elif event.code == UNREADABLE:
-            self.see("refusal %d told" % event.detail)
+    def see_pushes(self, events, cause):
+        for event in events:
+            self.links += event.code == IS_UP
+            self.push_watch.take(event, cause, self.session, self.links > 1)
+            if event.code == UNREADABLE:
+                self.see("refusal %d told" % event.detail)
 
     def see_message(self, before, answer, events):
         self.see("%s heard in %s" % (kind_name(answer.kind), before.state))
@@ -178,25 +172,11 @@ class WatchedReplay(Replay):
         taken = super().take_call(line)
         self.seen["last set"] += taken and line.startswith(b"last ")
         self.seen["bad line"] += not taken
-        self.seen["interval among the calls"] += line.startswith(b"interval ")
-        self.seen["conduct among the calls"] += line in (b"conduct new", b"conduct old")
-        self.seen["bad conduct line"] += line in NO_CONDUCTS
+        word, _, text = line.partition(b" ")
+        if word in SETTINGS and SETTINGS[word](text) is not None:
+            self.see("%s among the calls" % word.decode())
+        self.see(*bad_settings(line))
         return taken
-
-    def take_message(self, message):
-        self.see_objection(message)
-        super().take_message(message)
-
-    def see_objection(self, message):
-        """UnreadableMessage for a push that will not be sent again: its event is the same as for other types."""
-        if self.session.state != UP or b":UnreadableMessage<" not in message:
-            return
-        for push in self.session.pushes:
-            if b'inRelationTo="%d"' % push.number in message:
-                if self.names[push.number] == "Advisory push":
-                    self.see("UnreadableMessage for an Advisory push")
-                if self.resent_by.get(push.number) == "time":
-                    self.see("UnreadableMessage after a resend by time")
 
     def take_line(self, line):
         self.seen["empty line"] += not line
@@ -207,22 +187,31 @@ class WatchedReplay(Replay):
         is_setting = super().take_setting(line)
         if is_setting:
             self.see_setting(line)
-        self.seen["bad conduct line that ends the settings"] += line in NO_CONDUCTS
+        self.see(*(kind + " that ends the settings" for kind in bad_settings(line)))
         return is_setting
 
     def see_setting(self, line):
-        name, other = ("conduct", "interval") if line.startswith(b"conduct") else ("interval", "conduct")
-        given = self.said_of(name.encode())
+        word = line.partition(b" ")[0]
+        name, given = word.decode(), self.said_of(word)
         self.seen[name + " given twice"] += len(given) == 1
         self.seen[name + " given otherwise by a later line"] += bool(given) and given[-1] != line
-        self.seen["%s behind %s" % (name, other)] += bool(self.said_of(other.encode()))
+        for other in SETTINGS:
+            self.seen["%s behind %s" % (name, other.decode())] += other != word and bool(self.said_of(other))
         self.said.append(line)
 
     def end_settings(self):
         super().end_settings()
+        self.see_resends()
         if self.session.refusal:
             self.see("refusal %d" % self.session.refusal)
             self.seen["refusal %d with a conduct said" % self.session.refusal] += bool(self.said_of(b"conduct"))
+
+    def see_resends(self):
+        said, resends = self.said_of(b"resends"), self.site.resends
+        self.seen[RESENDS_ARE_SAID] += bool(said)
+        self.seen["1 resend because it is said" if said else "1 resend because none are said"] += resends == 1
+        self.seen["resends beyond 32 bits"] += resends > GREATEST_NUMBER
+        self.seen["refusal 4 with resends above 3"] += self.session.refusal == BAD_INTERVAL and resends > MOST_RESENDS
 
     def run(self, script):
         self.seen["last line without LF"] += bool(script) and not script.endswith(b"\n")

@@ -11,7 +11,7 @@ from session_lines import (NEARLY_REDUNDANT, OPEN_REQUEST, REDUNDANT, REDUNDANT_
 
 MOST_CALLS = 12000  # a script that has so many is ended
 HANDLES = (0, 1, 17, 17, 4294967295)
-SETTINGS_AMONG_CALLS = (b"interval 50", b"conduct old", b"conduct new") * 2
+SETTINGS_AMONG_CALLS = (b"interval 50", b"conduct old", b"conduct new", b"resends 0", b"resends 3") * 2
 
 
 class Writer:
@@ -63,7 +63,8 @@ class Writer:
         session = self.session
         dues = [session.timer_due, session.heartbeat_due]
         for push in session.pushes:
-            dues += [push.resend_due, push.close_due]
+            resends_left = push.most_sendings - len(push.sent_at)
+            dues += [push.due, push.due + TICKS_TO_ANSWER * resends_left]
         return [due for due in dues if due is not None]
 
     def wait_a_little(self):
@@ -101,9 +102,9 @@ class Writer:
 
     def come_up(self):
         while self.session.state != UP and not self.is_over():
-            if self.chance(0.04):
+            if self.chance(0.06):
                 self.stumble()
-            if self.session.state in LINKED and self.chance(0.3):
+            if self.session.state in LINKED and self.chance(0.4):
                 self.rng.choice((self.say_anything, self.say_anything, self.name_nothing, self.hand_in))()
             self.advance()
 
@@ -156,6 +157,25 @@ class Writer:
             self.tick(self.rng.choice((0, 1, 19)))
             self.write(self.rng.choice((unreadable, unreadable, ok, advisory))(number))
 
+    def wear_out(self):
+        """Lets the sendings of a new push go by, by time and by UnreadableMessage, up to its end or an answer."""
+        self.write("%s %d" % (self.rng.choice(("push",) * 5 + ("advise",)), self.number()))
+        numbers = [push.number for push in self.session.pushes][-1:]
+        by_time, answered = self.rng.choice((0, 0.5, 0.5, 1)), self.rng.choice((0, 0, 0.3, 0.3))
+        while numbers and not self.is_over():
+            push = next((push for push in self.session.pushes if push.number == numbers[0]), None)
+            if push is None:
+                return
+            if self.chance(0.03):
+                self.lose()
+            elif self.chance(answered):
+                self.write(self.rng.choice((ok, ok, advisory))(push.number))
+            elif self.chance(by_time):
+                self.pass_ticks_until(push.due)
+            else:
+                self.pass_ticks_until(push.due - self.rng.choice((1, 1, 5, 15, 20)))
+                self.write(unreadable(push.number))
+
     def answer_session_ok(self):
         if self.session.session_ok is not None:
             objects = self.session.state == UP and self.chance(0.2)
@@ -205,7 +225,8 @@ class Writer:
         """Pushes that are due in the tick of a heartbeat, sometimes as many as there can be."""
         if self.session.state != UP:
             return
-        self.pass_ticks_until(self.session.heartbeat_due - TICKS_TO_ANSWER * self.rng.choice((1, 1, 2)))
+        sendings = self.rng.randint(1, self.session.site.resends + 1)
+        self.pass_ticks_until(self.session.heartbeat_due - TICKS_TO_ANSWER * sendings)
         if self.session.session_ok is not None:
             self.answer_session_ok()
         (self.fill_at_once if self.chance(0.2) else self.push_some)()
@@ -290,6 +311,6 @@ class Writer:
 
     def write_badly(self):
         line = self.rng.choice(BAD_LINES + NO_SETTINGS + SETTINGS_AMONG_CALLS + (b"", b""))
-        if self.chance(0.08):
+        if self.chance(0.12):
             line = ok(self.open_push()).encode().ljust(LONGEST_LINE + self.rng.choice((0, 1, 20)))
         self.write(line.decode("latin-1"))

@@ -7,7 +7,7 @@ use Prim.Native.Nat.{ℕ}
 use borrow.Author.Tests.{not-true}
 use Rattle.conduct.specs.Lists.{flat, only, those}
 use Rattle.conduct.specs.Numbers.{nextFree, numbered, allNumbered}
-use Rattle.conduct.specs.Pushes.{keptBy, keeps, tells, fateOf}
+use Rattle.conduct.specs.Pushes.{termsOf, keptBy, keeps, tells, fateOf}
 use Rattle.conduct.specs.Session.{Session, held}
 use Rattle.conduct.specs.Step.{noted, remarkNotes, opens, eventsBy, movedBy, Answered, step}
 use Rattle.conduct.specs.History.{firstSending, history, eventsIn}
@@ -24,6 +24,7 @@ use Rattle.conduct.specs.declared.Remark.{Remark}
 use Rattle.conduct.specs.declared.Remark.the-variants as remarks
 use Rattle.conduct.specs.declared.Call.{Call}
 use Rattle.conduct.specs.declared.Move.{Move}
+use Rattle.conduct.specs.declared.Terms.{Terms}
 use Rattle.conduct.proofs.Lists.{flat-append, flat-nothing, map-append, none-those}
 use Rattle.conduct.proofs.Sweeps.{Same, Of, fate-of}
 use Rattle.conduct.proofs.Moves.{usual, Usual, stays, departs, by-moves}
@@ -35,7 +36,7 @@ thin-same : {A : Type 0} (xs : List A) → Thinned xs xs
 thin-same [] = none
 thin-same (x ∷ xs) = kept x xs xs (thin-same xs)
 
-thin-none : {A : Type 0} (xs : List A) → Thinned [] xs
+pub thin-none : {A : Type 0} (xs : List A) → Thinned [] xs
 thin-none [] = none
 thin-none (x ∷ xs) = left x [] xs (thin-none xs)
 
@@ -55,18 +56,18 @@ thin-again {xs = xs} (left z ys zs b) a = left z xs zs (thin-again b a)
 same-acceptance : {p q : Push} → Same p q → acceptance p ≡ acceptance q
 same-acceptance {p} {q} h = λ i. record { code = firstCode (sym (h .kind) i); number = sym (h .named) i; detail = sym (h .handled) i }
 
-sweep-thins : (sweep : Sweep) (ps : List Push) → Thinned (map acceptance (flat (keeps sweep) ps)) (map acceptance ps)
-sweep-thins sweep [] = none
-sweep-thins sweep (p ∷ ps) = go (fateOf sweep p) (fate-of sweep p) (sweep-thins sweep ps)
+sweep-thins : (terms : Terms) (sweep : Sweep) (ps : List Push) → Thinned (map acceptance (flat (keeps terms sweep) ps)) (map acceptance ps)
+sweep-thins terms sweep [] = none
+sweep-thins terms sweep (p ∷ ps) = go (fateOf terms sweep p) (fate-of terms sweep p) (sweep-thins terms sweep ps)
   where
-    stayed : (q : Push) → Same p q → Thinned (map acceptance (flat (keeps sweep) ps)) (map acceptance ps)
-        → Thinned (acceptance q ∷ map acceptance (flat (keeps sweep) ps)) (acceptance p ∷ map acceptance ps)
+    stayed : (q : Push) → Same p q → Thinned (map acceptance (flat (keeps terms sweep) ps)) (map acceptance ps)
+        → Thinned (acceptance q ∷ map acceptance (flat (keeps terms sweep) ps)) (acceptance p ∷ map acceptance ps)
     stayed q h t =
-        subst (λ (e : Event). Thinned (e ∷ map acceptance (flat (keeps sweep) ps)) (acceptance p ∷ map acceptance ps)) (same-acceptance h)
+        subst (λ (e : Event). Thinned (e ∷ map acceptance (flat (keeps terms sweep) ps)) (acceptance p ∷ map acceptance ps)) (same-acceptance h)
         (kept (acceptance p) _ _ t)
 
-    go : (f : Fate) → Of p f → Thinned (map acceptance (flat (keeps sweep) ps)) (map acceptance ps)
-        → Thinned (map acceptance (keptBy f ++ flat (keeps sweep) ps)) (acceptance p ∷ map acceptance ps)
+    go : (f : Fate) → Of p f → Thinned (map acceptance (flat (keeps terms sweep) ps)) (map acceptance ps)
+        → Thinned (map acceptance (keptBy f ++ flat (keeps terms sweep) ps)) (acceptance p ∷ map acceptance ps)
     go (Keep q) h t = stayed q h t
     go (Again q e) h t = stayed q (h .0) t
     go (Close e) h t = left (acceptance p) _ _ t
@@ -88,17 +89,17 @@ Thins s t es = Thinned (map acceptance (t .pushes)) (map acceptance (s .pushes) 
 
 move-thins : (s : Session) (m : Move) → Usual (s .state) m → Thins s (movedBy s m) (eventsBy s m)
 move-thins s m (stays to sweep remark stay lost said ok) =
-    let t = flat (tells sweep) (s .pushes) in
+    let t = flat (tells (termsOf (s .site)) sweep) (s .pushes) in
     let r = allNumbered (held s) (s .last) (remarkNotes remark) in
     let o = opens (nextFree (held s) (s .last)) remark in
-    let none-told = none-those firstSending t (told-fails firstSending (λ n d. refl) sweep (s .pushes)) in
+    let none-told = none-those firstSending t (told-fails firstSending (λ n d. refl) (termsOf (s .site)) sweep (s .pushes)) in
     let accepts : those firstSending (t ++ r) ≡ map acceptance o =
     flat-append (only firstSending) t r ∙ ap₂ _++_ none-told (remark-accepts (held s) (s .last) remark said)
     in
-    rw (map-append acceptance (flat (keeps sweep) (s .pushes)) o, accepts)
-    (thin-append (sweep-thins sweep (s .pushes)) (thin-same (map acceptance o)))
+    rw (map-append acceptance (flat (keeps (termsOf (s .site)) sweep) (s .pushes)) o, accepts)
+    (thin-append (sweep-thins (termsOf (s .site)) sweep (s .pushes)) (thin-same (map acceptance o)))
 move-thins s m (departs to parting down few) =
-    let lost = flat-nothing (keeps sweeps.Lost) (λ p. refl) (s .pushes) in
+    let lost = flat-nothing (keeps (termsOf (s .site)) sweeps.Lost) (λ p. refl) (s .pushes) in
     rw lost (thin-none _)
 
 step-thins : (s : Session) (c : Call) → Thins s (step s c .next) (step s c .events)

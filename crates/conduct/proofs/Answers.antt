@@ -18,9 +18,9 @@ use Rattle.conduct.specs.Table.{actionOf}
 use Rattle.conduct.specs.Rules as rules
 use Rattle.conduct.specs.Rules.{goes, note, waits, adviceBy, namedBy, okNaming, advisoryNaming, advisedAbout, acted, moveOf}
 use Rattle.conduct.specs.Step.{Answered, answer, step}
-use Rattle.conduct.specs.History.{entry, namesNumber, names, Bearing, adviceBearing, saysUnreadable, messageBearing, callBearing, bearing}
+use Rattle.conduct.specs.History.{codesOf, entry, namesNumber, names, Bearing, adviceBearing, saysUnreadable, messageBearing, callBearing, bearing}
 use Rattle.conduct.specs.History.Bearing.{ticked, acknowledged}
-use Rattle.conduct.specs.Timers.{codesOf, AnswerIsHeard}
+use Rattle.conduct.specs.Timers.{AnswerIsHeard}
 use Rattle.conduct.specs.declared.Awaited.the-variants as awaited
 use Rattle.conduct.specs.declared.State.{State}
 use Rattle.conduct.specs.declared.State.the-variants.{Confirming, Up}

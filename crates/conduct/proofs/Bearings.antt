@@ -3,7 +3,7 @@
 -- Assumes nothing.
 use mathlib.Core.Path.{_≡_, refl, sym, ap, ap₂, subst⁻¹, _∙_}
 use mathlib.Core.Bool.{Bool, true, false, cond, _&&_}
-use mathlib.Core.List.{List, [], _∷_, _++_, map}
+use mathlib.Core.List.{List, [], _∷_, _++_}
 use Prim.Native.Nat.{ℕ, _+_}
 use lib.Dec.{eqb, ltb}
 use borrow.Author.Tests.{eq-eqb, ne-eqb, eqb-true}
@@ -19,13 +19,13 @@ use Rattle.message.specs.declared.Message.{Message}
 use Rattle.message.proofs.Laws.{cond-cases, cond-both}
 use Rattle.conduct.specs.Lists.{flat, among, distinct}
 use Rattle.conduct.specs.Codes.{sendResponseAgain, closedAcknowledged, closedAdvised, closedTimedOut, advisoryArrived}
-use Rattle.conduct.specs.Pushes.{eventOf, older, sentAgain, sentOnce, againOr, fateOf, keptBy, toldBy}
+use Rattle.conduct.specs.Pushes.{termsOf, eventOf, older, sentAgain, mayGoAgain, againOr, fateOf, keptBy, toldBy}
 use Rattle.conduct.specs.Session.{Session, isUp, awaitedNumbers, pushNumbers, held}
 use Rattle.conduct.specs.Sound.{sound}
 use Rattle.conduct.specs.Table.{actionOf}
 use Rattle.conduct.specs.Rules as rules
 use Rattle.conduct.specs.Rules.{goes, touches, note, tick, namedBy, matchesNothing, advisedAbout, acted, moveOf}
-use Rattle.conduct.specs.History.{namesNumber, names, isUnreadableMessage, Bearing, adviceBearing, messageBearing, callBearing}
+use Rattle.conduct.specs.History.{codesOf, namesNumber, names, isUnreadableMessage, Bearing, adviceBearing, messageBearing, callBearing}
 use Rattle.conduct.specs.History.Bearing.{ticked, acknowledged, unreadableMessage, advised}
 use Rattle.conduct.specs.declared.Awaited.{Awaited}
 use Rattle.conduct.specs.declared.Awaited.the-variants as awaited
@@ -34,7 +34,6 @@ use Rattle.conduct.specs.declared.State.the-variants.{Waiting, Connectin
 use Rattle.conduct.specs.declared.Site.{Site}
 use Rattle.conduct.specs.declared.Pushed.{Pushed}
 use Rattle.conduct.specs.declared.Push.{Push}
-use Rattle.conduct.specs.declared.Event.{Event}
 use Rattle.conduct.specs.declared.Call.{Call}
 use Rattle.conduct.specs.declared.Call.the-variants as calls
 use Rattle.conduct.specs.declared.Sweep.{Sweep}
@@ -44,6 +43,7 @@ use Rattle.conduct.specs.declared.Fate.the-variants.{Keep, Again, Close}
 use Rattle.conduct.specs.declared.Remark.{Remark}
 use Rattle.conduct.specs.declared.Remark.the-variants as remarks
 use Rattle.conduct.specs.declared.Move.{Move}
+use Rattle.conduct.specs.declared.Terms.{Terms}
 use Rattle.conduct.proofs.Lists.{distinct-head}
 use Rattle.conduct.proofs.Good.{good}
 use Rattle.conduct.proofs.Sweeps.{mine}
@@ -51,31 +51,28 @@ use Rattle.conduct.proofs.Calls.{none-mine}
 
 -- ---- fates
 
-abbrev fateBy : Bearing → Push → Fate
-fateBy ticked p = fateOf sweeps.Older p
-fateBy acknowledged p = Close (eventOf closedAcknowledged p)
-fateBy unreadableMessage p = againOr closedAdvised p
-fateBy advised p = Close (eventOf closedAdvised p)
+abbrev fateBy : Terms → Bearing → Push → Fate
+fateBy terms ticked p = fateOf terms sweeps.Older p
+fateBy terms acknowledged p = Close (eventOf closedAcknowledged p)
+fateBy terms unreadableMessage p = againOr terms closedAdvised p
+fateBy terms advised p = Close (eventOf closedAdvised p)
 
 -- of a call: one that bears on nothing leaves a push as it is
-abbrev pub fateIn : List Bearing → Push → Fate
-fateIn [] p = Keep p
-fateIn (b ∷ bs) p = fateBy b p
-
-abbrev pub codesOf : List Event → List ℕ
-codesOf es = map (λ (e : Event). e .code) es
+abbrev pub fateIn : Terms → List Bearing → Push → Fate
+fateIn terms [] p = Keep p
+fateIn terms (b ∷ bs) p = fateBy terms b p
 
 -- what is said of the pushes ms at each of what bears on them, one after the other
-abbrev pub tale : List Push → List Bearing → List (List ℕ)
-tale ms [] = []
-tale ms (b ∷ bs) = codesOf (flat (λ (p : Push). toldBy (fateBy b p)) ms) ∷ tale (flat (λ (p : Push). keptBy (fateBy b p)) ms) bs
+abbrev pub tale : Terms → List Push → List Bearing → List (List ℕ)
+tale terms ms [] = []
+tale terms ms (b ∷ bs) = codesOf (flat (λ (p : Push). toldBy (fateBy terms b p)) ms) ∷ tale terms (flat (λ (p : Push). keptBy (fateBy terms b p)) ms) bs
 
 -- ---- pushes that differ in their numbers and handles
 
 abbrev pushWith : Pushed → ℕ → ℕ → ℕ → ℕ → Push
 pushWith what sent age n h = record { what = what; number = n; handle = h; sent = sent; age = age }
 
-module _ (bs : List Bearing) (what : Pushed) (sent age n n′ h h′ : ℕ) where
+module _ (terms : Terms) (bs : List Bearing) (what : Pushed) (sent age n n′ h h′ : ℕ) where
   abbrev p : Push
   p = pushWith what sent age n h
 
@@ -83,11 +80,11 @@ module _ (bs : List Bearing) (what : Pushed) (sent age n n′ h h′ : ℕ) wher
   q = pushWith what sent age n′ h′
 
   abbrev talesAgree : List Push → List Push → Type 0
-  talesAgree ms ms′ = tale ms bs ≡ tale ms′ bs
+  talesAgree ms ms′ = tale terms ms bs ≡ tale terms ms′ bs
 
   -- a tale that begins with a fate: p's and q's
   abbrev taleFrom : Fate → List (List ℕ)
-  taleFrom f = codesOf (toldBy f ++ []) ∷ tale (keptBy f ++ []) bs
+  taleFrom f = codesOf (toldBy f ++ []) ∷ tale terms (keptBy f ++ []) bs
 
   abbrev agree : Fate → Fate → Type 0
   agree f f′ = taleFrom f ≡ taleFrom f′
@@ -96,48 +93,51 @@ module _ (bs : List Bearing) (what : Pushed) (sent age n n′ h h′ : ℕ) wher
   agree-if true f g f′ g′ x y = x
   agree-if false f g f′ g′ x y = y
 
-  again-agrees : (code : ℕ) → talesAgree (sentAgain p ∷ []) (sentAgain q ∷ []) → agree (againOr code p) (againOr code q)
+  again-agrees : (code : ℕ) → talesAgree (sentAgain p ∷ []) (sentAgain q ∷ []) → agree (againOr terms code p) (againOr terms code q)
   again-agrees code anew =
-      agree-if (sentOnce p) (Again (sentAgain p) (eventOf sendResponseAgain p)) (Close (eventOf code p))
+      agree-if (mayGoAgain terms p) (Again (sentAgain p) (eventOf sendResponseAgain p)) (Close (eventOf code p))
       (Again (sentAgain q) (eventOf sendResponseAgain q)) (Close (eventOf code q)) (ap (_∷_ (sendResponseAgain ∷ [])) anew) refl
 
   tick-agrees : talesAgree (older p ∷ []) (older q ∷ []) → talesAgree (sentAgain p ∷ []) (sentAgain q ∷ [])
-      → agree (fateBy ticked p) (fateBy ticked q)
+      → agree (fateBy terms ticked p) (fateBy terms ticked q)
   tick-agrees longer anew =
-      agree-if (ltb age 19) (Keep (older p)) (againOr closedTimedOut p) (Keep (older q)) (againOr closedTimedOut q)
+      agree-if (ltb (age + 1) (terms .ticks)) (Keep (older p)) (againOr terms closedTimedOut p) (Keep (older q)) (againOr terms closedTimedOut q)
       (ap (_∷_ []) longer) (again-agrees closedTimedOut anew)
 
-pub same-tale : (bs : List Bearing) (what : Pushed) (sent age n n′ h h′ : ℕ)
-    → tale (pushWith what sent age n h ∷ []) bs ≡ tale (pushWith what sent age n′ h′ ∷ []) bs
-same-tale [] what sent age n n′ h h′ = refl
-same-tale (ticked ∷ bs) what sent age n n′ h h′ =
-    tick-agrees bs what sent age n n′ h h′ (same-tale bs what sent (age + 1) n n′ h h′) (same-tale bs what 2 0 n n′ h h′)
-same-tale (acknowledged ∷ bs) what sent age n n′ h h′ = refl
-same-tale (unreadableMessage ∷ bs) what sent age n n′ h h′ =
-    again-agrees bs what sent age n n′ h h′ closedAdvised (same-tale bs what 2 0 n n′ h h′)
-same-tale (advised ∷ bs) what sent age n n′ h h′ = refl
+pub same-tale : (terms : Terms) (bs : List Bearing) (what : Pushed) (sent age n n′ h h′ : ℕ)
+    → tale terms (pushWith what sent age n h ∷ []) bs ≡ tale terms (pushWith what sent age n′ h′ ∷ []) bs
+same-tale terms [] what sent age n n′ h h′ = refl
+same-tale terms (ticked ∷ bs) what sent age n n′ h h′ =
+    tick-agrees terms bs what sent age n n′ h h′ (same-tale terms bs what sent (age + 1) n n′ h h′) (same-tale terms bs what (sent + 1) 0 n n′ h h′)
+same-tale terms (acknowledged ∷ bs) what sent age n n′ h h′ = refl
+same-tale terms (unreadableMessage ∷ bs) what sent age n n′ h h′ =
+    again-agrees terms bs what sent age n n′ h h′ closedAdvised (same-tale terms bs what (sent + 1) 0 n n′ h h′)
+same-tale terms (advised ∷ bs) what sent age n n′ h h′ = refl
 
 -- ---- a call, and a push p with the number n, in Up, where n is an open push's number and not the open SessionOk's
 
 module _ (n : ℕ) (p : Push) (own : p .number ≡ n) (site : Site) (last : ℕ) (waiting : Awaited) (age : ℕ) (ps : List Push)
     (not-awaited : among n (awaitedNumbers waiting) ≡ false) (is-open : among n (pushNumbers ps) ≡ true)
   where
+    abbrev terms : Terms
+    terms = termsOf site
+
     abbrev s : Session
     s = record { site = site; state = Up waiting age; pushes = ps; last = last }
 
     abbrev fateFrom : Move → Fate
-    fateFrom m = fateOf (m .sweep) p
+    fateFrom m = fateOf terms (m .sweep) p
 
     -- a message that names the number m, where x: m is the open SessionOk's, and y: it is an open push's
     abbrev naming : (ℕ → Sweep) → Remark → ℕ → Bool → Bool → Move
-    naming f r m x y = cond x (goes (Up awaited.Nothing age) r) (cond y (touches (Up waiting age) (f m)) (matchesNothing (Up waiting age)))
+    naming f said m x y = cond x (goes (Up awaited.Nothing age) said) (cond y (touches (Up waiting age) (f m)) (matchesNothing (Up waiting age)))
 
     -- it is something to p just if m is n
-    named-is : (b : Bearing) (f : ℕ → Sweep) (r : Remark) (m : ℕ)
-        → fateOf (f n) p ≡ fateBy b p → (eqb (p .number) m ≡ false → fateOf (f m) p ≡ Keep p)
-        → fateFrom (naming f r m (among m (awaitedNumbers waiting)) (among m (pushNumbers ps))) ≡ fateIn (cond (eqb m n) (b ∷ []) []) p
-    named-is b f r m same aside =
-        cond-cases (λ (bs : List Bearing). fateFrom (naming f r m x y) ≡ fateIn bs p) (eqb m n) (λ e. its-own (eqb-true m n e))
+    named-is : (b : Bearing) (f : ℕ → Sweep) (said : Remark) (m : ℕ)
+        → fateOf terms (f n) p ≡ fateBy terms b p → (eqb (p .number) m ≡ false → fateOf terms (f m) p ≡ Keep p)
+        → fateFrom (naming f said m (among m (awaitedNumbers waiting)) (among m (pushNumbers ps))) ≡ fateIn terms (cond (eqb m n) (b ∷ []) []) p
+    named-is b f said m same aside =
+        cond-cases (λ (bs : List Bearing). fateFrom (naming f said m x y) ≡ fateIn terms bs p) (eqb m n) (λ e. its-own (eqb-true m n e))
         (λ e. other x y (ne-eqb (p .number) m (λ d. true-false (eq-eqb m n (sym d ∙ own)) e)))
       where
         x : Bool
@@ -146,34 +146,34 @@ module _ (n : ℕ) (p : Push) (own : p .number ≡ n) (site : Site) (last : ℕ)
         y : Bool
         y = among m (pushNumbers ps)
 
-        its-own : m ≡ n → fateFrom (naming f r m x y) ≡ fateBy b p
+        its-own : m ≡ n → fateFrom (naming f said m x y) ≡ fateBy terms b p
         its-own e =
             let no-ok : x ≡ false = rw e not-awaited in
             let a-push : y ≡ true = rw e is-open in
             rw (no-ok, a-push, e) same
 
-        other : (x y : Bool) → eqb (p .number) m ≡ false → fateFrom (naming f r m x y) ≡ Keep p
+        other : (x y : Bool) → eqb (p .number) m ≡ false → fateFrom (naming f said m x y) ≡ Keep p
         other true y e = refl
         other false true e = aside e
         other false false e = refl
 
-    ok-is : (v : NumberValue) → fateFrom (rules.acknowledged s (namedBy v)) ≡ fateIn (cond (names n v) (acknowledged ∷ []) []) p
+    ok-is : (v : NumberValue) → fateFrom (rules.acknowledged s (namedBy v)) ≡ fateIn terms (cond (names n v) (acknowledged ∷ []) []) p
     ok-is v = go (v .there) (v .number)
       where
         go : (there : Bool) (number : Number)
             → fateFrom (rules.acknowledged s (cond there number numbers.Nothing))
-            ≡ fateIn (cond (there && namesNumber n number) (acknowledged ∷ []) []) p
+            ≡ fateIn terms (cond (there && namesNumber n number) (acknowledged ∷ []) []) p
         go false number = refl
         go true numbers.Nothing = refl
         go true (numbers.Names m) =
             named-is acknowledged sweeps.Acknowledged remarks.Nothing m (rw (eq-eqb (p .number) n own)) (λ e. rw e)
 
-    advisory-is : (m : Message) → fateFrom (rules.advised s m) ≡ fateIn (messageBearing n m kinds.Advisory) p
+    advisory-is : (m : Message) → fateFrom (rules.advised s m) ≡ fateIn terms (messageBearing n m kinds.Advisory) p
     advisory-is m = go (m .«in_relation_to» .there) (m .«in_relation_to» .number) (m .«advisory_type» .there) (m .«advisory_type» .advice)
       where
         go : (there : Bool) (number : Number) (typed : Bool) (advice : Advice)
             → fateFrom (cond there (advisedAbout s (cond typed advice advices.Other) number) (goes (s .state) (note advisoryArrived)))
-            ≡ fateIn (cond (there && namesNumber n number) (adviceBearing (typed && isUnreadableMessage advice) ∷ []) []) p
+            ≡ fateIn terms (cond (there && namesNumber n number) (adviceBearing (typed && isUnreadableMessage advice) ∷ []) []) p
         go false number typed advice = refl
         go true numbers.Nothing typed advice = refl
         go true (numbers.Names m) true advices.UnreadableMessage =
@@ -183,7 +183,7 @@ module _ (n : ℕ) (p : Push) (own : p .number ≡ n) (site : Site) (last : ℕ)
         go true (numbers.Names m) false advice =
             named-is advised sweeps.Advised (note advisoryArrived) m (rw (eq-eqb (p .number) n own)) (λ e. rw e)
 
-    heard-is : (m : Message) (k : Kind) → fateFrom (acted s m (actionOf (Up waiting age) k)) ≡ fateIn (messageBearing n m k) p
+    heard-is : (m : Message) (k : Kind) → fateFrom (acted s m (actionOf (Up waiting age) k)) ≡ fateIn terms (messageBearing n m k) p
     heard-is m kinds.SessionOpenRequest = refl
     heard-is m kinds.SessionOpenResponse = refl
     heard-is m kinds.SessionOk = refl
@@ -194,13 +194,13 @@ module _ (n : ℕ) (p : Push) (own : p .number ≡ n) (site : Site) (last : ℕ)
 
     -- a tick after which the session is still up
     abbrev TickIs : Move → Type 0
-    TickIs m = isUp (m .to) ≡ true → fateFrom m ≡ fateOf sweeps.Older p
+    TickIs m = isUp (m .to) ≡ true → fateFrom m ≡ fateOf terms sweeps.Older p
 
     tick-is : (next : ℕ) (w : Awaited) → TickIs (tick (site .interval) next (Up w age))
     tick-is next awaited.Nothing = cond-both TickIs (ltb (age + 1) (site .interval)) (λ u. refl) (λ u. refl)
     tick-is next (awaited.Ok number) = cond-both TickIs (ltb age 19) (λ u. refl) (λ u. absurd (true-false u refl))
 
-    call-is : (c : Call) → isUp (moveOf s c .to) ≡ true → fateFrom (moveOf s c) ≡ fateIn (callBearing n c) p
+    call-is : (c : Call) → isUp (moveOf s c .to) ≡ true → fateFrom (moveOf s c) ≡ fateIn terms (callBearing n c) p
     call-is calls.Tick u = tick-is _ waiting u
     call-is calls.Connected u = absurd (true-false u refl)
     call-is calls.Lost u = absurd (true-false u refl)
@@ -231,8 +231,8 @@ flat-mine n f g h (p ∷ ps) = go (eqb (p .number) n) refl (flat-mine n f g h ps
 module _ {B : Type 0} (g : Fate → List B) (n : ℕ) (c : Call) where
   abbrev Borne : Session → Type 0
   Borne s =
-      flat (λ (p : Push). g (fateOf (moveOf s c .sweep) p)) (mine n (s .pushes))
-      ≡ flat (λ (p : Push). g (fateIn (callBearing n c) p)) (mine n (s .pushes))
+      flat (λ (p : Push). g (fateOf (termsOf (s .site)) (moveOf s c .sweep) p)) (mine n (s .pushes))
+      ≡ flat (λ (p : Push). g (fateIn (termsOf (s .site)) (callBearing n c) p)) (mine n (s .pushes))
 
   borne-up : (site : Site) (last : ℕ) (w : Awaited) (age : ℕ) (ps : List Push)
       → let s : Session = record { site = site; state = Up w age; pushes = ps; last = last } in
@@ -244,7 +244,7 @@ module _ {B : Type 0} (g : Fate → List B) (n : ℕ) (c : Call) where
 
       go : (b : Bool) → among n (pushNumbers ps) ≡ b → Borne s
       go true e =
-          flat-mine n (λ (p : Push). g (fateOf (moveOf s c .sweep) p)) (λ (p : Push). g (fateIn (callBearing n c) p))
+          flat-mine n (λ (p : Push). g (fateOf (termsOf (s .site)) (moveOf s c .sweep) p)) (λ (p : Push). g (fateIn (termsOf (s .site)) (callBearing n c) p))
           (λ p own. ap g (call-is n p own site last w age ps (not-awaited-too n w (pushNumbers ps) d e) e c u))
           ps
       go false e = rw (none-mine n ps e)

@@ -12,7 +12,7 @@ use Rattle.laws.proofs.Tests.{either, neither, true-false}
 use Rattle.conduct.specs.Lists.{flat, only, those, some, among}
 use Rattle.conduct.specs.Numbers.{Note, nextFree, numbered, lastAfter, allNumbered}
 use Rattle.conduct.specs.Codes.{sending}
-use Rattle.conduct.specs.Pushes.{keeps, tells}
+use Rattle.conduct.specs.Pushes.{termsOf, keeps, tells}
 use Rattle.conduct.specs.Session.{Session, pushNumbers, held, refusalOf}
 use Rattle.conduct.specs.Rules.{moveOf}
 use Rattle.conduct.specs.Step.{noted, partingNotes, remarkNotes, opens, lastAfterParting, eventsBy, movedBy}
@@ -85,8 +85,8 @@ module _ (n : ℕ) (s : Session) (m : Move) where
   giving =
       some-append (gives n) (partingEvents s m) _
       ∙ rw (
-        some-append (gives n) (flat (tells (m .sweep)) (s .pushes)) _,
-        told-fails (gives n) (λ number detail. refl) (m .sweep) (s .pushes),
+        some-append (gives n) (flat (tells (termsOf (s .site)) (m .sweep)) (s .pushes)) _,
+        told-fails (gives n) (λ number detail. refl) (termsOf (s .site)) (m .sweep) (s .pushes),
       )
 
   pub given-free : length (held s) < 2 ^ 32 → some (gives n) (eventsBy s m) ≡ true → among n (held s) ≡ false
@@ -96,28 +96,28 @@ module _ (n : ℕ) (s : Session) (m : Move) where
       go (inl g) = notes-give (held s) n few (partingNotes (m .parting)) (s .last) g
       go (inr g) = notes-give (held s) n few (remarkNotes (m .remark)) (lastAfterParting s m) g
 
-  pub call-left : some (gives n) (eventsBy s m) ≡ false → mine n (movedBy s m .pushes) ≡ flat (keeps (m .sweep)) (mine n (s .pushes))
+  pub call-left : some (gives n) (eventsBy s m) ≡ false → mine n (movedBy s m .pushes) ≡ flat (keeps (termsOf (s .site)) (m .sweep)) (mine n (s .pushes))
   call-left h =
       let r = neither (some (gives n) (partingEvents s m)) _ (sym giving ∙ h) .1 in
-      flat-append (only (is n)) (flat (keeps (m .sweep)) (s .pushes)) _
-      ∙ (ap₂ _++_ (sweep-kept n (m .sweep) (s .pushes)) (opens-other (held s) n (lastAfterParting s m) (m .remark) r) ∙ append-nil _)
+      flat-append (only (is n)) (flat (keeps (termsOf (s .site)) (m .sweep)) (s .pushes)) _
+      ∙ (ap₂ _++_ (sweep-kept n (termsOf (s .site)) (m .sweep) (s .pushes)) (opens-other (held s) n (lastAfterParting s m) (m .remark) r) ∙ append-nil _)
 
 -- no parting and no remark is about an open push
 pub call-told : (n : ℕ) (s : Session) (c : Call) → refusalOf s c ≡ 0
-    → those (about n) (eventsBy s (moveOf s c)) ≡ flat (tells (moveOf s c .sweep)) (mine n (s .pushes))
+    → those (about n) (eventsBy s (moveOf s c)) ≡ flat (tells (termsOf (s .site)) (moveOf s c .sweep)) (mine n (s .pushes))
 call-told n s c z = moved (moveOf s c) (move-usual s c z)
   where
     sent : (last : ℕ) (what : Pushed) (handle : ℕ) → not (about n (numbered (held s) last (noted (sending what) handle))) ≡ true
     sent last Response handle = refl
     sent last Advisory handle = refl
 
-    moved : (m : Move) → Usual (s .state) m → those (about n) (eventsBy s m) ≡ flat (tells (m .sweep)) (mine n (s .pushes))
+    moved : (m : Move) → Usual (s .state) m → those (about n) (eventsBy s m) ≡ flat (tells (termsOf (s .site)) (m .sweep)) (mine n (s .pushes))
     moved m (stays to sweep remark up lost said ok) =
-        flat-append (only (about n)) (flat (tells sweep) (s .pushes)) (allNumbered (held s) (s .last) (remarkNotes remark))
+        flat-append (only (about n)) (flat (tells (termsOf (s .site)) sweep) (s .pushes)) (allNumbered (held s) (s .last) (remarkNotes remark))
         ∙ rw (none-those (about n) (allNumbered (held s) (s .last) (remarkNotes remark))
         (remark-fails (about n) (held s) (s .last) refl (λ r. refl) (sent (s .last)) remark said))
-        (append-nil _ ∙ sweep-told n sweep (s .pushes))
+        (append-nil _ ∙ sweep-told n (termsOf (s .site)) sweep (s .pushes))
     moved m (departs to parting down few) =
         flat-append (only (about n)) (partingEvents s m) _
         ∙ rw (none-those (about n) (partingEvents s m) (parting-fails (about n) (held s) (λ last. refl) parting (s .last)))
-        (ap (those (about n)) (append-nil (flat (tells sweeps.Lost) (s .pushes))) ∙ sweep-told n sweeps.Lost (s .pushes))
+        (ap (those (about n)) (append-nil (flat (tells (termsOf (s .site)) sweeps.Lost) (s .pushes))) ∙ sweep-told n (termsOf (s .site)) sweeps.Lost (s .pushes))

@@ -6,7 +6,7 @@ use Prim.Native.Nat.{ℕ}
 use Rattle.conduct.specs.Lists.{flat, all}
 use Rattle.conduct.specs.Codes.{sending}
 use Rattle.conduct.specs.Numbers.{numbered, allNumbered}
-use Rattle.conduct.specs.Pushes.{tells}
+use Rattle.conduct.specs.Pushes.{termsOf, tells}
 use Rattle.conduct.specs.Session.{Session, held}
 use Rattle.conduct.specs.Step.{noted, partingNotes, remarkNotes, eventsBy, Answered}
 use Rattle.conduct.specs.Bounds.{numberFits, detailFits, OnlyTheseCarry}
@@ -27,12 +27,12 @@ module _ (test : Event → Bool) (s : Session)
     (sent : (what : Pushed) (handle : ℕ) → test (numbered (held s) (s .last) (noted (sending what) handle)) ≡ true) where
   move-pass : (m : Move) → Usual (s .state) m → all test (eventsBy s m) ≡ true
   move-pass m (stays to sweep remark up lost said ok) =
-      all-append test (flat (tells sweep) (s .pushes)) (allNumbered (held s) (s .last) (remarkNotes remark))
-      ∙ both (told-pass test told sweep (s .pushes)) (remark-pass test (held s) (s .last) remark-says unreadable sent remark said)
+      all-append test (flat (tells (termsOf (s .site)) sweep) (s .pushes)) (allNumbered (held s) (s .last) (remarkNotes remark))
+      ∙ both (told-pass test told (termsOf (s .site)) sweep (s .pushes)) (remark-pass test (held s) (s .last) remark-says unreadable sent remark said)
   move-pass m (departs to parting down few) =
       all-append test (allNumbered (held s) (s .last) (partingNotes parting)) _
       ∙ both (parting-pass test (held s) parting-says parting (s .last))
-      (all-append test (flat (tells sweeps.Lost) (s .pushes)) [] ∙ both (told-pass test told sweeps.Lost (s .pushes)) refl)
+      (all-append test (flat (tells (termsOf (s .site)) sweeps.Lost) (s .pushes)) [] ∙ both (told-pass test told (termsOf (s .site)) sweeps.Lost (s .pushes)) refl)
 
 sent-number : (s : Session) (what : Pushed) (handle : ℕ) → numberFits (numbered (held s) (s .last) (noted (sending what) handle)) ≡ true
 sent-number s Response handle = refl

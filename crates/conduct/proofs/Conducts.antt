@@ -6,17 +6,12 @@ use Prim.Native.Nat.{ℕ, zero, suc}
 use native.Mathlib.Omega.{arith}
 use borrow.Author.Tests.{not-true}
 use Rattle.laws.proofs.Tests.{true-false, cond-cases}
-use Rattle.message.specs.declared.Number.{Number}
-use Rattle.message.specs.declared.Number.the-variants as numbers
-use Rattle.message.specs.declared.Advice.{Advice}
 use Rattle.message.specs.declared.Message.{Message}
 use Rattle.message.specs.declared.Status.{Status}
 use Rattle.message.specs.declared.Status.the-variants as statuses
-use Rattle.conduct.specs.Codes.{advisoryArrived}
-use Rattle.conduct.specs.Session.{Session, Made, allowedInterval, refusalOf}
+use Rattle.conduct.specs.Session.{Session, Made, allowedInterval, allowedResends, refusalOf}
 use Rattle.conduct.specs.Table.{actionOf}
-use Rattle.conduct.specs.Rules.{goes, note, nextNumber, answered, namedBy, statusBy, adviceBy, countedIn}
-use Rattle.conduct.specs.Rules.{okNaming, acknowledged, advisoryNaming, advisedAbout, acted, moveOf}
+use Rattle.conduct.specs.Rules.{nextNumber, answered, namedBy, statusBy, countedIn, acted, moveOf}
 use Rattle.conduct.specs.Step.{Answered, answer, step, movedBy, eventsBy}
 use Rattle.conduct.specs.History.{entry, history, sessionAfter}
 use Rattle.conduct.specs.Conducts.{isRedundantSession, saysRedundant}
@@ -24,8 +19,7 @@ use Rattle.conduct.specs.Conducts.{withConduct, answeredIn, byConduct, O
 use Rattle.conduct.specs.Conducts.{MadeAsChosen, NewWhereUnsaid, NewWhereRefused}
 use Rattle.conduct.specs.declared.Conduct.{Conduct}
 use Rattle.conduct.specs.declared.Conduct.the-variants.{New, Old}
-use Rattle.conduct.specs.declared.State.{State}
-use Rattle.conduct.specs.declared.State.the-variants.{Waiting, Connecting, Opening, Confirming, Up, Stopped}
+use Rattle.conduct.specs.declared.State.the-variants.{Waiting, Stopped}
 use Rattle.conduct.specs.declared.Call.{Call}
 use Rattle.conduct.specs.declared.Call.the-variants as calls
 use Rattle.conduct.specs.declared.Action.{Action}
@@ -34,6 +28,7 @@ use Rattle.conduct.specs.declared.Move.{Move}
 use Rattle.conduct.proofs.Lists.{both-of}
 use Rattle.conduct.proofs.Refused.{accepted-fits}
 use Rattle.conduct.proofs.Acted.{Placed, placed}
+use Rattle.conduct.proofs.Elsewhere.{ok-alike, advised-alike}
 
 -- ---- nothing else looks at the conduct
 
@@ -52,41 +47,14 @@ not-redundant true status h = h
 not-redundant false status h = refl
 
 module _ (k : Conduct) (s : Session) where
-  ok-named-alike : (n : ℕ) (state : State) → okNaming (withConduct k s) n state ≡ okNaming s n state
-  ok-named-alike n (Waiting left) = refl
-  ok-named-alike n Connecting = refl
-  ok-named-alike n (Opening age) = refl
-  ok-named-alike n (Confirming number age) = refl
-  ok-named-alike n (Up waiting age) = refl
-  ok-named-alike n Stopped = refl
-
-  ok-alike : (number : Number) → acknowledged (withConduct k s) number ≡ acknowledged s number
-  ok-alike numbers.Nothing = refl
-  ok-alike (numbers.Names n) = ok-named-alike n (s .state)
-
-  advisory-alike : (advice : Advice) (n : ℕ) (state : State) → advisoryNaming (withConduct k s) advice n state ≡ advisoryNaming s advice n state
-  advisory-alike advice n (Waiting left) = refl
-  advisory-alike advice n Connecting = refl
-  advisory-alike advice n (Opening age) = refl
-  advisory-alike advice n (Confirming number age) = refl
-  advisory-alike advice n (Up waiting age) = refl
-  advisory-alike advice n Stopped = refl
-
-  advised-alike : (there : Bool) (number : Number) (advice : Advice)
-      → cond there (advisedAbout (withConduct k s) advice number) (goes (s .state) (note advisoryArrived))
-      ≡ cond there (advisedAbout s advice number) (goes (s .state) (note advisoryArrived))
-  advised-alike false number advice = refl
-  advised-alike true numbers.Nothing advice = refl
-  advised-alike true (numbers.Names n) advice = advisory-alike advice n (s .state)
-
   acted-alike : (m : Message) (a : Action) → Placed s m a → byConduct s (calls.Heard m) ≡ false → acted (withConduct k s) m a ≡ acted s m a
   acted-alike m actions.OutOfPlace p h = refl
   acted-alike m actions.Answer p h =
       let silent : saysRedundant m ≡ false = rw (p .1, p .2) at h in
       ap (answered (nextNumber s))
       (counted-alike k (s .site .conduct) (statusBy (m .status)) (not-redundant (m .status .there) (m .status .status) silent))
-  acted-alike m actions.Acknowledge p h = ok-alike (namedBy (m .«in_response_to»))
-  acted-alike m actions.Advise p h = advised-alike (m .«in_relation_to» .there) (m .«in_relation_to» .number) (adviceBy (m .«advisory_type»))
+  acted-alike m actions.Acknowledge p h = ok-alike (withConduct k s .site) s (namedBy (m .«in_response_to»))
+  acted-alike m actions.Advise p h = advised-alike (withConduct k s .site) s m
   acted-alike m actions.Request p h = refl
 
   move-alike : (c : Call) → refusalOf s c ≡ 0 → byConduct s c ≡ false → moveOf (withConduct k s) c ≡ moveOf s c
@@ -122,15 +90,22 @@ only-there-throughout k s (c ∷ cs) h =
 
 pub made-as-chosen : MadeAsChosen
 made-as-chosen site =
-    cond-cases (λ (m : Made). m .refusal ≡ 0 → m .session ≡ record { site = site; state = Waiting 1; pushes = []; last = 0 })
-    (allowedInterval (site .interval)) (λ e h. refl) (λ e h. absurd (omega (arith, h)))
+    cond-cases Chosen (allowedInterval (site .interval))
+    (λ e. cond-cases Chosen (allowedResends (site .resends)) (λ f h. refl) (λ f h. absurd (omega (arith, h))))
+    (λ e h. absurd (omega (arith, h)))
+  where
+    Chosen : Made → Type 0
+    Chosen m = m .refusal ≡ 0 → m .session ≡ record { site = site; state = Waiting 1; pushes = []; last = 0 }
 
 pub new-where-unsaid : NewWhereUnsaid
 new-where-unsaid interval = refl
 
 pub new-where-refused : NewWhereRefused
 new-where-refused site =
-    cond-cases
-    (λ (m : Made).
-    (m .refusal ≡ 0 → ⊥) → m .session ≡ record { site = record { interval = 21; conduct = New }; state = Stopped; pushes = []; last = 0 })
-    (allowedInterval (site .interval)) (λ e h. absurd (h refl)) (λ e h. refl)
+    cond-cases Refused (allowedInterval (site .interval))
+    (λ e. cond-cases Refused (allowedResends (site .resends)) (λ f h. absurd (h refl)) (λ f h. refl))
+    (λ e h. refl)
+  where
+    Refused : Made → Type 0
+    Refused m =
+        (m .refusal ≡ 0 → ⊥) → m .session ≡ record { site = record { interval = 21; conduct = New; resends = 0 }; state = Stopped; pushes = []; last = 0 }

@@ -11,8 +11,8 @@ use Rattle.conduct.specs.Session.{Session, stateNumber}
 use Rattle.conduct.specs.Sound.{soundState}
 use Rattle.conduct.specs.Rules.{tick}
 use Rattle.conduct.specs.Step.{step}
-use Rattle.conduct.specs.History.{history, sessionAfter, ticks}
-use Rattle.conduct.specs.Timers.{codesOf, ConfirmingLasts}
+use Rattle.conduct.specs.History.{codesOf, history, sessionAfter, ticks}
+use Rattle.conduct.specs.Timers.{ConfirmingLasts}
 use Rattle.conduct.specs.declared.State.{State}
 use Rattle.conduct.specs.declared.State.the-variants.{Waiting, Confirming}
 use Rattle.conduct.specs.declared.Call.the-variants as calls

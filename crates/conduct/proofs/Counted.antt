@@ -8,7 +8,7 @@ use lib.ListN.{length, length-append, length-map}
 use Rattle.conduct.specs.Lists.{flat, only, those, some}
 use Rattle.conduct.specs.Codes.{sending}
 use Rattle.conduct.specs.Numbers.{numbered, allNumbered, nextFree}
-use Rattle.conduct.specs.Pushes.{toldBy, keptBy, keeps, tells, fateOf}
+use Rattle.conduct.specs.Pushes.{termsOf, toldBy, keptBy, keeps, tells, fateOf}
 use Rattle.conduct.specs.Session.{Session, held}
 use Rattle.conduct.specs.Step.{noted, partingNotes, remarkNotes, opens, eventsBy, movedBy, Answered, step}
 use Rattle.conduct.specs.History.{firstSending, isClosing, history, eventsIn}
@@ -26,6 +26,7 @@ use Rattle.conduct.specs.declared.Parting.{Parting}
 use Rattle.conduct.specs.declared.Remark.{Remark}
 use Rattle.conduct.specs.declared.Call.{Call}
 use Rattle.conduct.specs.declared.Move.{Move}
+use Rattle.conduct.specs.declared.Terms.{Terms}
 use Rattle.conduct.proofs.Lists.{flat-append, none-those}
 use Rattle.conduct.proofs.Sweeps.{Of, fate-of}
 use Rattle.conduct.proofs.Moves.{usual, Usual, stays, departs, by-moves}
@@ -44,20 +45,20 @@ fate-count p (Keep q) h = refl
 fate-count p (Again q e) h = rw (h .2)
 fate-count p (Close e) h = rw (h .1)
 
-sweep-count : (sweep : Sweep) (ps : List Push) → closed (flat (tells sweep) ps) + length (flat (keeps sweep) ps) ≡ length ps
-sweep-count sweep [] = refl
-sweep-count sweep (p ∷ ps) =
-    let one = fate-count p (fateOf sweep p) (fate-of sweep p) in
-    let told = count-append isClosing (tells sweep p) (flat (tells sweep) ps) in
-    let kept = length-append (keeps sweep p) (flat (keeps sweep) ps) in
-    omega (arith, sweep-count sweep ps)
+sweep-count : (terms : Terms) (sweep : Sweep) (ps : List Push) → closed (flat (tells terms sweep) ps) + length (flat (keeps terms sweep) ps) ≡ length ps
+sweep-count terms sweep [] = refl
+sweep-count terms sweep (p ∷ ps) =
+    let one = fate-count p (fateOf terms sweep p) (fate-of terms sweep p) in
+    let told = count-append isClosing (tells terms sweep p) (flat (tells terms sweep) ps) in
+    let kept = length-append (keeps terms sweep p) (flat (keeps terms sweep) ps) in
+    omega (arith, sweep-count terms sweep ps)
 
 none-counted : (test : Event → Bool) (es : List Event) → some test es ≡ false → length (those test es) ≡ 0
 none-counted test es h = ap length (none-those test es h)
 
 -- an open push sends nothing for the first time
-none-sent : (sweep : Sweep) (ps : List Push) → sendings (flat (tells sweep) ps) ≡ 0
-none-sent sweep ps = none-counted firstSending (flat (tells sweep) ps) (told-fails firstSending (λ n d. refl) sweep ps)
+none-sent : (terms : Terms) (sweep : Sweep) (ps : List Push) → sendings (flat (tells terms sweep) ps) ≡ 0
+none-sent terms sweep ps = none-counted firstSending (flat (tells terms sweep) ps) (told-fails firstSending (λ n d. refl) terms sweep ps)
 
 -- a parting neither sends nor closes one
 parting-count : (s : Session) (parting : Parting)
@@ -91,30 +92,30 @@ Counts s t es = length (t .pushes) + closed es ≡ length (s .pushes) + sendings
 
 move-counts : (s : Session) (m : Move) → Usual (s .state) m → Counts s (movedBy s m) (eventsBy s m)
 move-counts s m (stays to sweep remark stay lost said ok) =
-    let t = flat (tells sweep) (s .pushes) in
+    let t = flat (tells (termsOf (s .site)) sweep) (s .pushes) in
     let r = allNumbered (held s) (s .last) (remarkNotes remark) in
     omega (
       arith,
-      length-append (flat (keeps sweep) (s .pushes)) (opens (nextFree (held s) (s .last)) remark),
+      length-append (flat (keeps (termsOf (s .site)) sweep) (s .pushes)) (opens (nextFree (held s) (s .last)) remark),
       count-append isClosing t r,
       count-append firstSending t r,
-      sweep-count sweep (s .pushes),
-      none-sent sweep (s .pushes),
+      sweep-count (termsOf (s .site)) sweep (s .pushes),
+      none-sent (termsOf (s .site)) sweep (s .pushes),
       remark-closes s remark said,
       remark-opens s remark said,
     )
 move-counts s m (departs to parting down few) =
     let p = allNumbered (held s) (s .last) (partingNotes parting) in
-    let t = flat (tells sweeps.Lost) (s .pushes) in
+    let t = flat (tells (termsOf (s .site)) sweeps.Lost) (s .pushes) in
     omega (
       arith,
-      length-append (flat (keeps sweeps.Lost) (s .pushes)) [],
+      length-append (flat (keeps (termsOf (s .site)) sweeps.Lost) (s .pushes)) [],
       count-append isClosing p (t ++ []),
       count-append isClosing t [],
       count-append firstSending p (t ++ []),
       count-append firstSending t [],
-      sweep-count sweeps.Lost (s .pushes),
-      none-sent sweeps.Lost (s .pushes),
+      sweep-count (termsOf (s .site)) sweeps.Lost (s .pushes),
+      none-sent (termsOf (s .site)) sweeps.Lost (s .pushes),
       parting-count s parting .0,
       parting-count s parting .1,
     )

@@ -23,7 +23,7 @@ use Rattle.conduct.specs.declared.Call.the-variants as calls
 use Rattle.conduct.specs.declared.Action.{Action}
 use Rattle.conduct.specs.declared.Action.the-variants as actions
 use Rattle.conduct.specs.declared.Move.{Move}
-use Rattle.conduct.proofs.Intervals.{site-stays}
+use Rattle.conduct.proofs.Sites.{site-stays}
 
 -- ---- RedundantSession and the status for which it stands
 

@@ -7,7 +7,7 @@ use native.Mathlib.Omega.{arith}
 use lib.ListN.{length, length-append}
 use Rattle.conduct.specs.Lists.{flat}
 use Rattle.conduct.specs.Numbers.{Note, lastAfter, allNumbered}
-use Rattle.conduct.specs.Pushes.{toldBy, tells, fateOf}
+use Rattle.conduct.specs.Pushes.{termsOf, toldBy, tells, fateOf}
 use Rattle.conduct.specs.Session.{Session, isUp, held}
 use Rattle.conduct.specs.Step.{partingNotes, remarkNotes, eventsBy, Answered}
 use Rattle.conduct.specs.Bounds.{FewEvents}
@@ -19,13 +19,14 @@ use Rattle.conduct.specs.declared.Fate.the-variants.{Keep, Again, Close}
 use Rattle.conduct.specs.declared.Parting.{Parting}
 use Rattle.conduct.specs.declared.Parting.the-variants as partings
 use Rattle.conduct.specs.declared.Move.{Move}
+use Rattle.conduct.specs.declared.Terms.{Terms}
 use Rattle.conduct.proofs.Lists.{length-flat-le}
 use Rattle.conduct.proofs.Good.{Good, good}
 use Rattle.conduct.proofs.Moves.{Usual, stays, departs, by-moves}
 use Rattle.conduct.proofs.Said.{remark-short}
 
-pub told-few : (sweep : Sweep) (ps : List Push) → length (flat (tells sweep) ps) ≤ length ps
-told-few sweep ps = length-flat-le (tells sweep) (λ p. one (fateOf sweep p)) ps
+pub told-few : (terms : Terms) (sweep : Sweep) (ps : List Push) → length (flat (tells terms sweep) ps) ≤ length ps
+told-few terms sweep ps = length-flat-le (tells terms sweep) (λ p. one (fateOf terms sweep p)) ps
   where
     one : (f : Fate) → length (toldBy f) ≤ 1
     one (Keep q) = omega arith
@@ -57,20 +58,20 @@ move-few s m g (stays to sweep remark stay lost said ok) =
     let r = allNumbered (held s) (s .last) (remarkNotes remark) in
     omega (
       arith,
-      length-append (flat (tells sweep) (s .pushes)) r,
-      told-few sweep (s .pushes),
+      length-append (flat (tells (termsOf (s .site)) sweep) (s .pushes)) r,
+      told-few (termsOf (s .site)) sweep (s .pushes),
       remark-short (held s) (s .last) remark,
       g .room,
     )
 move-few s m g (departs to parting down few) =
     let p = allNumbered (held s) (s .last) (partingNotes parting) in
-    let t = flat (tells sweeps.Lost) (s .pushes) in
+    let t = flat (tells (termsOf (s .site)) sweeps.Lost) (s .pushes) in
     omega (
       arith,
       length-append p (t ++ []),
       length-append t [],
       length-numbered (held s) (s .last) (partingNotes parting),
-      told-few sweeps.Lost (s .pushes),
+      told-few (termsOf (s .site)) sweeps.Lost (s .pushes),
       departing s parting g few,
     )
 

@@ -8,7 +8,7 @@ use native.Mathlib.Omega.{arith}
 use borrow.Author.Tests.{eq-eqb}
 use Rattle.laws.proofs.Tests.{neither}
 use Rattle.conduct.specs.Lists.{flat, only, among}
-use Rattle.conduct.specs.Pushes.{opened, tells, keeps}
+use Rattle.conduct.specs.Pushes.{termsOf, opened, tells, keeps}
 use Rattle.conduct.specs.Session.{Session, isUp, pushNumbers, sessionOkNumbers, refusalOf}
 use Rattle.conduct.specs.Sound.{sound}
 use Rattle.conduct.specs.Rules.{nextNumber, moveOf}
@@ -29,8 +29,8 @@ abbrev firstEvent : Pushed → ℕ → ℕ → Event
 firstEvent what n h = record { code = firstCode what; number = n; detail = h }
 
 give-events : (s : Session) (what : Pushed) (h : ℕ) → eventsBy s (moveOf s (calls.Push what h)) ≡ firstEvent what (nextNumber s) h ∷ []
-give-events s Response h = rw (flat-nothing (tells Still) (λ p. refl) (s .pushes))
-give-events s Advisory h = rw (flat-nothing (tells Still) (λ p. refl) (s .pushes))
+give-events s Response h = rw (flat-nothing (tells (termsOf (s .site)) Still) (λ p. refl) (s .pushes))
+give-events s Advisory h = rw (flat-nothing (tells (termsOf (s .site)) Still) (λ p. refl) (s .pushes))
 
 -- none had the number before
 none-before : (s : Session) → sound s ≡ true → mine (nextNumber s) (s .pushes) ≡ []
@@ -43,8 +43,8 @@ give-mine : (s : Session) (what : Pushed) (h : ℕ) → sound s ≡ true
     → mine (nextNumber s) (movedBy s (moveOf s (calls.Push what h)) .pushes) ≡ opened what (nextNumber s) h ∷ []
 give-mine s what h ok =
     let n : ℕ = nextNumber s in
-    flat-append (only (is n)) (flat (keeps Still) (s .pushes)) (opened what n h ∷ [])
-    ∙ rw (sweep-kept n Still (s .pushes), none-before s ok, eq-eqb n n refl)
+    flat-append (only (is n)) (flat (keeps (termsOf (s .site)) Still) (s .pushes)) (opened what n h ∷ [])
+    ∙ rw (sweep-kept n (termsOf (s .site)) Still (s .pushes), none-before s ok, eq-eqb n n refl)
 
 pub record Sent (s : Session) (what : Pushed) (n h : ℕ) : Type 0 where
   pub says : step s (calls.Push what h) .events ≡ record { code = firstCode what; number = n; detail = h } ∷ []

@@ -10,7 +10,8 @@ use lib.ListN.{length, length-append, length-map}
 use borrow.Author.Tests.{leb-true, le-leb, eqb-true}
 use Rattle.conduct.specs.Lists.{all, among, distinct}
 use Rattle.conduct.specs.Numbers.{nextFree}
-use Rattle.conduct.specs.Session.{Session, allowedInterval, isUp, awaitedNumbers, sessionOkNumbers, held}
+use Rattle.conduct.specs.Pushes.{termsOf}
+use Rattle.conduct.specs.Session.{Session, allowedInterval, allowedResends, isUp, awaitedNumbers, sessionOkNumbers, held}
 use Rattle.conduct.specs.Sound.{soundState, soundPush, sound}
 use Rattle.conduct.specs.Rules.{nextNumber}
 use Rattle.conduct.specs.declared.Awaited.{Awaited}
@@ -23,11 +24,12 @@ use Rattle.conduct.proofs.Free.{next-is-free}
 
 pub record Good (s : Session) : Type 0 where
   pub interval-is : allowedInterval (s .site .interval) ≡ true
+  pub resends-is : allowedResends (s .site .resends) ≡ true
   pub state-is : soundState (s .site .interval) (s .state) ≡ true
   pub room : length (s .pushes) ≤ 32
   -- outside Up no push is open
   pub quiet : isUp (s .state) ≡ false → s .pushes ≡ []
-  pub pushes-are : all soundPush (s .pushes) ≡ true
+  pub pushes-are : all (soundPush (termsOf (s .site))) (s .pushes) ≡ true
   pub numbers-are : distinct (held s) ≡ true
 
 -- ---- the test and the facts
@@ -43,12 +45,14 @@ of-quiet false ps h = rw (h refl)
 pub good : {s : Session} → sound s ≡ true → Good s
 good {s} h =
     let a = both-of (allowedInterval (s .site .interval)) _ h in
-    let b = both-of (soundState (s .site .interval) (s .state)) _ (a .1) in
+    let z = both-of (allowedResends (s .site .resends)) _ (a .1) in
+    let b = both-of (soundState (s .site .interval) (s .state)) _ (z .1) in
     let c = both-of (leb (length (s .pushes)) 32) _ (b .1) in
     let d = both-of (isUp (s .state) || eqb (length (s .pushes)) 0) _ (c .1) in
-    let e = both-of (all soundPush (s .pushes)) _ (d .1) in
+    let e = both-of (all (soundPush (termsOf (s .site))) (s .pushes)) _ (d .1) in
     record {
       interval-is = a .0;
+      resends-is = z .0;
       state-is = b .0;
       room = leb-true _ 32 (c .0);
       quiet = quiet-of (isUp (s .state)) (s .pushes) (d .0);
@@ -59,10 +63,11 @@ good {s} h =
 pub sound-of : {s : Session} → Good s → sound s ≡ true
 sound-of {s} g =
     both (g .interval-is)
+    (both (g .resends-is)
     (both (g .state-is)
     (both (le-leb _ 32 (g .room))
     (both (of-quiet (isUp (s .state)) (s .pushes) (g .quiet))
-    (both (g .pushes-are) (g .numbers-are)))))
+    (both (g .pushes-are) (g .numbers-are))))))
 
 -- ---- at most 33 numbers are held
 

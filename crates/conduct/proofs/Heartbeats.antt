@@ -10,7 +10,7 @@ use borrow.Author.Tests.{eq-eqb}
 use Rattle.laws.proofs.Tests.{neither, true-false}
 use Rattle.conduct.specs.Lists.{flat, some}
 use Rattle.conduct.specs.Numbers.{allNumbered}
-use Rattle.conduct.specs.Pushes.{tells}
+use Rattle.conduct.specs.Pushes.{termsOf, tells}
 use Rattle.conduct.specs.Session.{sessionOkNumbers, held}
 use Rattle.conduct.specs.Step.{partingNotes, remarkNotes, lastAfterParting, eventsBy, Answered}
 use Rattle.conduct.specs.Bounds.{OneSessionOk}
@@ -24,6 +24,7 @@ use Rattle.conduct.specs.declared.Parting.{Parting}
 use Rattle.conduct.specs.declared.Remark.{Remark}
 use Rattle.conduct.specs.declared.Remark.the-variants as remarks
 use Rattle.conduct.specs.declared.Move.{Move}
+use Rattle.conduct.specs.declared.Terms.{Terms}
 use Rattle.conduct.proofs.Lists.{some-append, length-none}
 use Rattle.conduct.proofs.Moves.{isSessionOk, Usual, stays, departs, by-moves}
 use Rattle.conduct.proofs.Said.{told-fails, parting-fails, remark-short}
@@ -32,8 +33,8 @@ abbrev isHeartbeat : Event → Bool
 isHeartbeat e = eqb (e .code) 3
 
 -- neither a parting nor an open push sends one
-told-none : (sweep : Sweep) (ps : List Push) → some isHeartbeat (flat (tells sweep) ps) ≡ false
-told-none sweep ps = told-fails isHeartbeat (λ n d. refl) sweep ps
+told-none : (terms : Terms) (sweep : Sweep) (ps : List Push) → some isHeartbeat (flat (tells terms sweep) ps) ≡ false
+told-none terms sweep ps = told-fails isHeartbeat (λ n d. refl) terms sweep ps
 
 parting-none : (hs : List ℕ) (parting : Parting) (last : ℕ) → some isHeartbeat (allNumbered hs last (partingNotes parting)) ≡ false
 parting-none hs parting last = parting-fails isHeartbeat hs (λ l. refl) parting last
@@ -60,7 +61,7 @@ heartbeat-last s c =
     by-moves (λ (a : Answered). Ends (a .events)) s c
     (λ m u.
     ends-after (allNumbered (held s) (s .last) (partingNotes (m .parting))) _ (parting-none (held s) (m .parting) (s .last))
-    (ends-after (flat (tells (m .sweep)) (s .pushes)) _ (told-none (m .sweep) (s .pushes))
+    (ends-after (flat (tells (termsOf (s .site)) (m .sweep)) (s .pushes)) _ (told-none (termsOf (s .site)) (m .sweep) (s .pushes))
     (ends-one _ (remark-short (held s) (lastAfterParting s m) (m .remark)))))
     (λ k. ends-one [] (omega arith))
 
@@ -84,10 +85,10 @@ one-session-ok s c sound =
   where
     moved : (m : Move) → Usual (s .state) m → some isHeartbeat (eventsBy s m) ≡ true → sessionOkNumbers (s .state) ≡ []
     moved m (stays to sweep remark stay lost said ok) h =
-        let e = some-append isHeartbeat (flat (tells sweep) (s .pushes)) (allNumbered (held s) (s .last) (remarkNotes remark)) in
-        ok (remark-sends (held s) (s .last) remark (rw (told-none sweep (s .pushes)) at (sym e ∙ h)))
+        let e = some-append isHeartbeat (flat (tells (termsOf (s .site)) sweep) (s .pushes)) (allNumbered (held s) (s .last) (remarkNotes remark)) in
+        ok (remark-sends (held s) (s .last) remark (rw (told-none (termsOf (s .site)) sweep (s .pushes)) at (sym e ∙ h)))
     moved m (departs to parting d few) h =
-        let told = flat (tells sweeps.Lost) (s .pushes) in
+        let told = flat (tells (termsOf (s .site)) sweeps.Lost) (s .pushes) in
         let e = some-append isHeartbeat (allNumbered (held s) (s .last) (partingNotes parting)) (told ++ []) in
         let f = some-append isHeartbeat told [] in
-        absurd (true-false h (e ∙ rw (parting-none (held s) parting (s .last), f, told-none sweeps.Lost (s .pushes))))
+        absurd (true-false h (e ∙ rw (parting-none (held s) parting (s .last), f, told-none (termsOf (s .site)) sweeps.Lost (s .pushes))))

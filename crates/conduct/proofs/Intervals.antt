@@ -1,7 +1,7 @@
 -- From one SessionOk to the next it is an interval of ticks, whatever else is called meanwhile. Assumes nothing.
 use mathlib.Core.Path.{_≡_, refl, sym, ap, _∙_}
 use mathlib.Core.Bool.{Bool, true, false, not, _&&_}
-use mathlib.Core.List.{List, [], _∷_}
+use mathlib.Core.List.{List}
 use mathlib.Core.Logic.{_⊎_, inl, inr}
 use Prim.Native.Nat.{ℕ, suc, _+_, _≤_, _<_}
 use native.Mathlib.Omega.{arith}
@@ -15,7 +15,7 @@ use Rattle.conduct.specs.Sound.{soundState, sound}
 use Rattle.conduct.specs.Rules.{tick, nextNumber}
 use Rattle.conduct.specs.Step.{Answered, step}
 use Rattle.conduct.specs.History.{Entry, entry, history, sessionAfter, ticks}
-use Rattle.conduct.specs.Timers.{saysSessionOk, isConfirmingOrUp, EveryInterval, SiteKept}
+use Rattle.conduct.specs.Timers.{saysSessionOk, isConfirmingOrUp, EveryInterval}
 use Rattle.conduct.specs.declared.Awaited.the-variants as awaited
 use Rattle.conduct.specs.declared.State.{State}
 use Rattle.conduct.specs.declared.State.the-variants.{Waiting, Connecting, Opening, Confirming, Up, Stopped}
@@ -180,12 +180,3 @@ every-interval s cs n ok e unsent-so-far =
       quiet = λ l. tick-events t (now .stands) ∙ says .quiet (omega (arith, now .its-interval, now .aged));
       last = λ l. tick-events t (now .stands) ∙ says .due (omega (arith, now .its-interval, now .aged));
     }
-
--- ---- which no call changes
-
-pub site-stays : (s : Session) (c : Call) → step s c .next .site ≡ s .site
-site-stays s c = by-turns (λ (k : ℕ) (r : Answered). r .next .site ≡ s .site) s c (λ k. refl) (λ m o. refl) (λ e. refl)
-
-pub site-kept : SiteKept
-site-kept s [] = refl
-site-kept s (c ∷ cs) = site-kept (step s c .next) cs ∙ site-stays s c

@@ -8,18 +8,19 @@ use lib.Dec.{ltb, eqb}
 use borrow.Author.Tests.{ltb-true, lt-ltb, eqb-true}
 use Rattle.laws.proofs.Tests.{never}
 use Rattle.conduct.specs.Lists.{flat, all}
-use Rattle.conduct.specs.Pushes.{tells}
+use Rattle.conduct.specs.Pushes.{termsOf, tells}
 use Rattle.conduct.specs.Session.{Session, stateNumber, isUp}
 use Rattle.conduct.specs.Sound.{sound}
 use Rattle.conduct.specs.Rules.{tick}
 use Rattle.conduct.specs.Step.{Answered, step}
-use Rattle.conduct.specs.History.{Entry, history, sessionAfter, ticks}
-use Rattle.conduct.specs.Timers.{codesOf, stays}
+use Rattle.conduct.specs.History.{codesOf, Entry, history, sessionAfter, ticks}
+use Rattle.conduct.specs.Timers.{stays}
 use Rattle.conduct.specs.declared.State.{State}
 use Rattle.conduct.specs.declared.Push.{Push}
 use Rattle.conduct.specs.declared.Call.{Call}
 use Rattle.conduct.specs.declared.Sweep.the-variants as sweeps
 use Rattle.conduct.specs.declared.Move.{Move}
+use Rattle.conduct.specs.declared.Terms.{Terms}
 use Rattle.conduct.proofs.Lists.{both-of, flat-nothing}
 use Rattle.conduct.proofs.Good.{good}
 use Rattle.conduct.proofs.Reached.{reached-is-sound}
@@ -71,12 +72,12 @@ module _ (number : ℕ) (below : number < 5) (Holds : ℕ → State → Type 0)
 -- ---- what a tick says
 
 -- open pushes are not touched, or are closed
-pub untouched : (t : Session) → flat (tells sweeps.Still) (t .pushes) ≡ []
-untouched t = flat-nothing (tells sweeps.Still) (λ p. refl) (t .pushes)
+pub untouched : (t : Session) → flat (tells (termsOf (t .site)) sweeps.Still) (t .pushes) ≡ []
+untouched t = flat-nothing (tells (termsOf (t .site)) sweeps.Still) (λ p. refl) (t .pushes)
 
-pub lost-codes : (ps : List Push) → codesOf (flat (tells sweeps.Lost) ps ++ []) ≡ map (λ (p : Push). 12) ps
-lost-codes [] = refl
-lost-codes (p ∷ ps) = ap (λ (codes : List ℕ). 12 ∷ codes) (lost-codes ps)
+pub lost-codes : (terms : Terms) (ps : List Push) → codesOf (flat (tells terms sweeps.Lost) ps ++ []) ≡ map (λ (p : Push). 12) ps
+lost-codes terms [] = refl
+lost-codes terms (p ∷ ps) = ap (λ (codes : List ℕ). 12 ∷ codes) (lost-codes terms ps)
 
 -- outside Up none is open
 pub none-open : (cs : List Call) (s : Session) {state : State} → sound s ≡ true → sessionAfter s cs .state ≡ state → isUp state ≡ false

@@ -1,6 +1,7 @@
 -- The laws about sessions; a promise of specs/ names the files that show it. `Among`, `Lists`, `Loops` and `Free` are about lists and numbers, `Good`, `Moves`,
 -- `Fair`, `Kept`, `Said`, `Sweeps` and `Calls` about one call in its parts, `Places` and `Given` about a place in a history. Of a push, `Bearings` says what
--- becomes of it by what bears on it, `Story` over its life, `Turns` in one call. `Onward`, `Acted`, `Clocks` and `Lasting` are for the laws on timers. What
+-- becomes of it by what bears on it, `Story` over its life, `Turns` in one call, `Still` while it is open, `Due` what is due of it and `Sayings` what tests find
+-- of it. `Sites` and `Elsewhere` are about what a session was made with. `Onward`, `Acted`, `Clocks` and `Lasting` are for the laws on timers. What
 -- `WaitingAtWork` and its like say, antt computes.
 pub mod Among
 pub mod Refused
@@ -17,9 +18,11 @@ pub mod Kept
 pub mod Counted
 pub mod Few
 pub mod Acceptance
+pub mod Spoken
 pub mod Taken
 pub mod Fair
 pub mod Reached
+pub mod Tested
 pub mod Story
 pub mod Moves
 pub mod Calls
@@ -41,6 +44,12 @@ pub mod Unheard
 pub mod Answers
 pub mod Sent
 pub mod Intervals
+pub mod Sites
+pub mod Sayings
+pub mod Still
+pub mod Due
+pub mod Elsewhere
+pub mod Resends
 pub mod Entered
 pub mod WaitingAtWork
 pub mod OpeningAtWork
@@ -56,6 +65,8 @@ pub mod NumbersAtWork
 pub mod MakingAtWork
 pub mod RefusalsAtWork
 pub mod SoundAtWork
+pub mod ResendsAtWork
+pub mod FatesAtWork
 pub mod OneAnswer
 pub mod OpenResponses
 pub mod CountedAs

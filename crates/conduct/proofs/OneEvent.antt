@@ -22,7 +22,7 @@ use Rattle.message.specs.declared.Message.{Message}
 use Rattle.message.proofs.Laws.{cond-both, cond-cases}
 use Rattle.conduct.specs.Lists.{flat, among, distinct}
 use Rattle.conduct.specs.Codes as codes
-use Rattle.conduct.specs.Pushes.{eventOf, sentOnce, againOr, toldBy, tells}
+use Rattle.conduct.specs.Pushes.{termsOf, eventOf, mayGoAgain, againOr, toldBy, tells}
 use Rattle.conduct.specs.Session.{Session, isUp, awaitedNumbers, sessionOkNumbers, pushNumbers}
 use Rattle.conduct.specs.Table.{actionOf}
 use Rattle.conduct.specs.Rules as rules
@@ -49,6 +49,7 @@ use Rattle.conduct.specs.declared.Fate.the-variants.{Keep, Close}
 use Rattle.conduct.specs.declared.Parting.the-variants as partings
 use Rattle.conduct.specs.declared.Remark.the-variants as remarks
 use Rattle.conduct.specs.declared.Move.{Move}
+use Rattle.conduct.specs.declared.Terms.{Terms}
 use Rattle.conduct.proofs.Lists.{flat-nothing, eqb-sym, distinct-head, distinct-tail, distinct-back}
 use Rattle.conduct.proofs.Good.{Good, good}
 use Rattle.conduct.proofs.Refused.{refused-by}
@@ -79,8 +80,8 @@ module _ (n : ℕ) (f : Push → List Event) (h : (p : Push) → length (f p) �
           omega (arith, length-append (f p) (flat f ps), ih a)
 
 -- what an Ok and an Advisory with the number n say of a push
-abbrev TellsOne : ℕ → Sweep → Type 0
-TellsOne n sweep = (p : Push) → length (tells sweep p) ≡ cond (eqb n (p .number)) 1 0
+abbrev TellsOne : Terms → ℕ → Sweep → Type 0
+TellsOne terms n sweep = (p : Push) → length (tells terms sweep p) ≡ cond (eqb n (p .number)) 1 0
 
 named-one : (n : ℕ) (p : Push) (f : Fate) → length (toldBy f) ≡ 1
     → length (toldBy (cond (eqb (p .number) n) f (Keep p))) ≡ cond (eqb n (p .number)) 1 0
@@ -90,13 +91,13 @@ named-one n p f h = rw (eqb-sym n (p .number)) (go (eqb (p .number) n))
     go true = h
     go false = refl
 
-acknowledged-tells : (n : ℕ) → TellsOne n (sweeps.Acknowledged n)
-acknowledged-tells n p = named-one n p (Close (eventOf 9 p)) refl
+acknowledged-tells : (terms : Terms) (n : ℕ) → TellsOne terms n (sweeps.Acknowledged n)
+acknowledged-tells terms n p = named-one n p (Close (eventOf 9 p)) refl
 
-advice-tells : (advice : Advice) (n : ℕ) → TellsOne n (advises advice n)
-advice-tells advices.UnreadableMessage n p =
-    named-one n p (againOr 10 p) (cond-both (λ (f : Fate). length (toldBy f) ≡ 1) (sentOnce p) refl refl)
-advice-tells advices.Other n p = named-one n p (Close (eventOf 10 p)) refl
+advice-tells : (terms : Terms) (advice : Advice) (n : ℕ) → TellsOne terms n (advises advice n)
+advice-tells terms advices.UnreadableMessage n p =
+    named-one n p (againOr terms 10 p) (cond-both (λ (f : Fate). length (toldBy f) ≡ 1) (mayGoAgain terms p) refl refl)
+advice-tells terms advices.Other n p = named-one n p (Close (eventOf 10 p)) refl
 
 -- ---- moves that say one thing
 
@@ -105,15 +106,15 @@ module _ (s : Session) where
   One m = length (eventsBy s m) ≡ 1
 
   goes-one : (state : State) (code detail : ℕ) → One (goes state (remarks.Note code detail))
-  goes-one state code detail = rw (flat-nothing (tells sweeps.Still) (λ p. refl) (s .pushes))
+  goes-one state code detail = rw (flat-nothing (tells (termsOf (s .site)) sweeps.Still) (λ p. refl) (s .pushes))
 
   leaves-one : (state : State) → s .pushes ≡ [] → One (leaves state partings.Disconnect)
   leaves-one state none-open = rw none-open
 
-  touches-one : distinct (pushNumbers (s .pushes)) ≡ true → (n : ℕ) (state : State) (sweep : Sweep) → TellsOne n sweep
+  touches-one : distinct (pushNumbers (s .pushes)) ≡ true → (n : ℕ) (state : State) (sweep : Sweep) → TellsOne (termsOf (s .site)) n sweep
       → among n (pushNumbers (s .pushes)) ≡ true → One (touches state sweep)
   touches-one differ n state sweep h a =
-      ap length (append-nil (flat (tells sweep) (s .pushes))) ∙ says-one n (tells sweep) h (s .pushes) differ a
+      ap length (append-nil (flat (tells (termsOf (s .site)) sweep) (s .pushes))) ∙ says-one n (tells (termsOf (s .site)) sweep) h (s .pushes) differ a
 
   answered-one : s .pushes ≡ [] → (next : ℕ) (status : Status) → One (answered next status)
   answered-one none-open next statuses.Ok = goes-one (Confirming next 0) codes.sendSessionOk 0
@@ -145,9 +146,9 @@ module _ (s : Session) (differ : distinct (pushNumbers (s .pushes)) ≡ true) wh
       inl (cond-both (One s) (eqb n number) (goes-one s (Up awaited.Nothing age) codes.up 0) (unmatched-one (Confirming number age)))
   ok-one n (Up waiting age) =
       cond-cases (λ (m : Move). One s m ⊎ Hushed s n (Up waiting age) m) (among n (awaitedNumbers waiting))
-      (λ e. inr (refl, awaited-is n waiting e, rw (flat-nothing (tells sweeps.Still) (λ p. refl) (s .pushes))))
+      (λ e. inr (refl, awaited-is n waiting e, rw (flat-nothing (tells (termsOf (s .site)) sweeps.Still) (λ p. refl) (s .pushes))))
       (λ e. inl (cond-cases (One s) (among n (pushNumbers (s .pushes)))
-      (touches-one s differ n (Up waiting age) (sweeps.Acknowledged n) (acknowledged-tells n))
+      (touches-one s differ n (Up waiting age) (sweeps.Acknowledged n) (acknowledged-tells (termsOf (s .site)) n))
       (λ f. unmatched-one (Up waiting age))))
   ok-one n Stopped = inl (unmatched-one Stopped)
 
@@ -163,7 +164,7 @@ module _ (s : Session) (differ : distinct (pushNumbers (s .pushes)) ≡ true) wh
     advisory-one advice n (Up waiting age) e =
         cond-both (One s) (among n (awaitedNumbers waiting)) (goes-one s (Up awaited.Nothing age) codes.advisoryArrived 0)
         (cond-cases (One s) (among n (pushNumbers (s .pushes)))
-        (touches-one s differ n (Up waiting age) (advises advice n) (advice-tells advice n))
+        (touches-one s differ n (Up waiting age) (advises advice n) (advice-tells (termsOf (s .site)) advice n))
         (λ f. unmatched-one (Up waiting age)))
     advisory-one advice n Stopped e = unmatched-one Stopped
 

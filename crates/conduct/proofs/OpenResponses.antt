@@ -13,7 +13,7 @@ use Rattle.message.specs.declared.Status.the-variants as statuses
 use Rattle.conduct.specs.Numbers.{after, nextFree}
 use Rattle.conduct.specs.Session.{Session, isUp, isLinked, stateNumber, refusalOf}
 use Rattle.conduct.specs.Lists.{flat}
-use Rattle.conduct.specs.Pushes.{keeps, tells}
+use Rattle.conduct.specs.Pushes.{termsOf, keeps, tells}
 use Rattle.conduct.specs.Table.{actionOf}
 use Rattle.conduct.specs.Rules.{nextNumber, answered, statusBy, countedIn}
 use Rattle.conduct.specs.Rules.{acted}
@@ -31,6 +31,7 @@ use Rattle.conduct.specs.declared.Sweep.the-variants as sweeps
 use Rattle.conduct.specs.declared.Push.{Push}
 use Rattle.conduct.specs.declared.Event.{Event}
 use Rattle.conduct.specs.declared.Move.{Move}
+use Rattle.conduct.specs.declared.Terms.{Terms}
 use Rattle.conduct.proofs.Lists.{flat-nothing}
 use Rattle.conduct.proofs.Refused.{refused-by, accepted-fits}
 use Rattle.conduct.proofs.Good.{good}
@@ -130,9 +131,9 @@ elsewhere kinds.Advisory state h l o = absurd (true-false h refl)
 elsewhere kinds.Request state h l o = absurd (true-false h refl)
 elsewhere kinds.Response state h l o = absurd (true-false h refl)
 
-still-kept : (ps : List Push) → flat (keeps sweeps.Still) ps ++ [] ≡ ps
-still-kept [] = refl
-still-kept (p ∷ ps) = ap (_∷_ p) (still-kept ps)
+still-kept : (terms : Terms) (ps : List Push) → flat (keeps terms sweeps.Still) ps ++ [] ≡ ps
+still-kept terms [] = refl
+still-kept terms (p ∷ ps) = ap (_∷_ p) (still-kept terms ps)
 
 pub out-of-place-elsewhere : OutOfPlaceElsewhere
 out-of-place-elsewhere s m h o a =
@@ -144,8 +145,8 @@ out-of-place-elsewhere s m h o a =
     event : Event
     event = record { code = 14; number = 0; detail = 0 }
 
-    untold : flat (tells sweeps.Still) (s .pushes) ++ (event ∷ []) ≡ event ∷ []
-    untold = rw (flat-nothing (tells sweeps.Still) (λ p. refl) (s .pushes))
+    untold : flat (tells (termsOf (s .site)) sweeps.Still) (s .pushes) ++ (event ∷ []) ≡ event ∷ []
+    untold = rw (flat-nothing (tells (termsOf (s .site)) sweeps.Still) (λ p. refl) (s .pushes))
 
     stays : _≡_ {A = Answered}
         (record { refusal = 0; next = movedBy s (acted s m actions.OutOfPlace); events = eventsBy s (acted s m actions.OutOfPlace) })
@@ -154,6 +155,6 @@ out-of-place-elsewhere s m h o a =
         λ i.
         record {
           refusal = 0;
-          next = record { site = s .site; state = s .state; pushes = still-kept (s .pushes) i; last = s .last };
+          next = record { site = s .site; state = s .state; pushes = still-kept (termsOf (s .site)) (s .pushes) i; last = s .last };
           events = untold i;
         }

@@ -4,15 +4,16 @@ use mathlib.Core.Path.{_≡_, refl, ap, _∙_}
 use mathlib.Core.Bool.{true, false}
 use mathlib.Core.List.{List, [], _∷_, _++_, append-nil, append-assoc}
 use mathlib.Core.Logic.{⊎-elim}
-use Prim.Native.Nat.{ℕ, zero, suc}
+use Prim.Native.Nat.{ℕ, zero, suc, _+_}
 use native.Mathlib.Omega.{arith}
 use lib.ListN.{length-append}
 use Rattle.laws.proofs.Tests.{neither, true-false}
 use Rattle.message.proofs.Laws.{cond-cases}
 use Rattle.conduct.specs.Lists.{flat, among, distinct}
 use Rattle.conduct.specs.Numbers.{nextFree}
-use Rattle.conduct.specs.Pushes.{opened, keeps}
-use Rattle.conduct.specs.Session.{Session, allowedInterval, Made, isUp, sessionOkNumbers, pushNumbers, held, refusalOf}
+use Rattle.conduct.specs.Pushes.{termsOf, opened, keeps}
+use borrow.Author.Tests.{le-leb}
+use Rattle.conduct.specs.Session.{allowedResends, Session, allowedInterval, Made, isUp, sessionOkNumbers, pushNumbers, held, refusalOf}
 use Rattle.conduct.specs.Rules.{nextNumber, moveOf}
 use Rattle.conduct.specs.Step.{lastAfterParting, movedBy, answer, step}
 use Rattle.conduct.specs.Sound.{soundPush, sound}
@@ -24,6 +25,7 @@ use Rattle.conduct.specs.declared.Pushed.the-variants.{Response, Advisor
 use Rattle.conduct.specs.declared.Sweep.the-variants as sweeps
 use Rattle.conduct.specs.declared.Call.{Call}
 use Rattle.conduct.specs.declared.Move.{Move}
+use Rattle.conduct.specs.declared.Site.{Site}
 use Rattle.conduct.proofs.Lists.{both, map-append, flat-nothing, all-append, among-append, distinct-cons, distinct-back}
 use Rattle.conduct.proofs.Lists.{distinct-more}
 use Rattle.conduct.proofs.Good.{Good, good, sound-of, some-number-free}
@@ -33,18 +35,18 @@ use Rattle.conduct.proofs.Fair.Taking.{holds, frees, sends, opens-one}
 
 -- ---- a fair move leads to a session that passes
 
-opened-sound : (what : Pushed) (number handle : ℕ) → soundPush (opened what number handle) ≡ true
-opened-sound Response number handle = refl
-opened-sound Advisory number handle = refl
+opened-sound : (site : Site) (what : Pushed) (number handle : ℕ) → soundPush (termsOf site) (opened what number handle) ≡ true
+opened-sound site Response number handle = both (le-leb 1 (site .resends + 1) (omega arith)) refl
+opened-sound site Advisory number handle = refl
 
 module _ (s : Session) (m : Move) (g : Good s) (f : Fair s m) where
   abbrev left-open : List Push
-  left-open = flat (keeps (m .sweep)) (s .pushes)
+  left-open = flat (keeps (termsOf (s .site)) (m .sweep)) (s .pushes)
 
   -- outside Up nothing is left open
   none-left : isUp (m .to) ≡ false → left-open ≡ []
   none-left u =
-      ⊎-elim (λ e. rw e (flat-nothing (keeps sweeps.Lost) (λ p. refl) (s .pushes))) (λ e. rw (g .quiet e)) (f .leaving u)
+      ⊎-elim (λ e. rw e (flat-nothing (keeps (termsOf (s .site)) sweeps.Lost) (λ p. refl) (s .pushes))) (λ e. rw (g .quiet e)) (f .leaving u)
 
   -- where no push is opened
   settled : newPushes s m ≡ [] → distinct (sessionOkNumbers (m .to) ++ pushNumbers left-open) ≡ true → Good (movedBy s m)
@@ -52,19 +54,20 @@ module _ (s : Session) (m : Move) (g : Good s) (f : Fair s m) where
       let as-left : left-open ++ newPushes s m ≡ left-open = ap (λ (qs : List Push). left-open ++ qs) o ∙ append-nil left-open in
       record {
         interval-is = g .interval-is;
+        resends-is = g .resends-is;
         state-is = f .to-is;
-        room = rw as-left (omega (arith, kept-few (m .sweep) (s .pushes), g .room));
+        room = rw as-left (omega (arith, kept-few (termsOf (s .site)) (m .sweep) (s .pushes), g .room));
         quiet = λ u. as-left ∙ none-left u;
-        pushes-are = rw as-left (kept-sound (m .sweep) (s .pushes) (g .pushes-are));
+        pushes-are = rw as-left (kept-sound (termsOf (s .site)) (m .sweep) (s .pushes) (g .pushes-are));
         numbers-are = rw as-left d;
       }
 
   -- no number comes back, and those that were held still differ
   free-still : (last : ℕ) → among (nextFree (held s) last) (sessionOkNumbers (s .state) ++ pushNumbers left-open) ≡ false
-  free-still last = kept-unheld (m .sweep) (nextFree (held s) last) (sessionOkNumbers (s .state)) (s .pushes) (some-number-free g last)
+  free-still last = kept-unheld (termsOf (s .site)) (m .sweep) (nextFree (held s) last) (sessionOkNumbers (s .state)) (s .pushes) (some-number-free g last)
 
   still-differ : distinct (sessionOkNumbers (s .state) ++ pushNumbers left-open) ≡ true
-  still-differ = kept-differ (m .sweep) (sessionOkNumbers (s .state)) (s .pushes) (g .numbers-are)
+  still-differ = kept-differ (termsOf (s .site)) (m .sweep) (sessionOkNumbers (s .state)) (s .pushes) (g .numbers-are)
 
   pushes-differ : distinct (pushNumbers left-open) ≡ true
   pushes-differ = distinct-back (sessionOkNumbers (s .state)) (pushNumbers left-open) still-differ
@@ -85,12 +88,13 @@ module _ (s : Session) (m : Move) (g : Good s) (f : Fair s m) where
       in
       record {
         interval-is = g .interval-is;
+        resends-is = g .resends-is;
         state-is = f .to-is;
-        room = rw one-more (simp length-append (omega (arith, kept-few (m .sweep) (s .pushes))));
+        room = rw one-more (simp length-append (omega (arith, kept-few (termsOf (s .site)) (m .sweep) (s .pushes))));
         quiet = λ u. absurd (true-false up u);
         pushes-are =
-            rw (one-more, all-append soundPush left-open (new ∷ []))
-            (both (kept-sound (m .sweep) (s .pushes) (g .pushes-are)) (both (opened-sound what (sentNumber s m) handle) refl));
+            rw (one-more, all-append (soundPush (termsOf (s .site))) left-open (new ∷ []))
+            (both (kept-sound (termsOf (s .site)) (m .sweep) (s .pushes) (g .pushes-are)) (both (opened-sound (s .site) what (sentNumber s m) handle) refl));
         numbers-are =
             rw (one-more, numbers)
             (distinct-more before (sentNumber s m) still-differ (free-still (lastAfterParting s m)));
@@ -113,7 +117,13 @@ reached-is-sound s [] h = h
 reached-is-sound s (c ∷ cs) h = reached-is-sound (step s c .next) cs (sound-step s c h)
 
 pub made-is-sound : MadeIsSound
-made-is-sound site = cond-cases (λ (m : Made). sound (m .session) ≡ true) (allowedInterval (site .interval)) (λ e. both e refl) (λ e. refl)
+made-is-sound site =
+    cond-cases Passes (allowedInterval (site .interval))
+    (λ e. cond-cases Passes (allowedResends (site .resends)) (λ f. both e (both f refl)) (λ f. refl))
+    (λ e. refl)
+  where
+    Passes : Made → Type 0
+    Passes m = sound (m .session) ≡ true
 
 -- ---- what that means of the numbers and of the room
 

@@ -26,6 +26,7 @@ use Rattle.conduct.specs.declared.Parting.{Parting}
 use Rattle.conduct.specs.declared.Parting.the-variants as partings
 use Rattle.conduct.specs.declared.Remark.{Remark}
 use Rattle.conduct.specs.declared.Remark.the-variants as remarks
+use Rattle.conduct.specs.declared.Terms.{Terms}
 use Rattle.conduct.proofs.Lists.{both, both-of, all-flat, all-always}
 use Rattle.conduct.proofs.Among.{row-among, all-among}
 use Rattle.conduct.proofs.Sweeps.{Of, fate-of}
@@ -58,15 +59,15 @@ module _ (test : Event → Bool)
   told-fate p (Again q e) o = both (told-one e (rw (o .2))) refl
   told-fate p (Close e) o = both (told-one e (closing-code (e .code) (o .1))) refl
 
-  pub told-pass : (sweep : Sweep) (ps : List Push) → all test (flat (tells sweep) ps) ≡ true
-  told-pass sweep ps =
-      all-flat test (tells sweep) ps
-      ∙ all-always (λ (p : Push). all test (tells sweep p)) (λ p. told-fate p (fateOf sweep p) (fate-of sweep p)) ps
+  pub told-pass : (terms : Terms) (sweep : Sweep) (ps : List Push) → all test (flat (tells terms sweep) ps) ≡ true
+  told-pass terms sweep ps =
+      all-flat test (tells terms sweep) ps
+      ∙ all-always (λ (p : Push). all test (tells terms sweep p)) (λ p. told-fate p (fateOf terms sweep p) (fate-of terms sweep p)) ps
 
 pub told-fails : (test : Event → Bool)
     → ((number detail : ℕ) → all (λ (code : ℕ). not (test (record { code = code; number = number; detail = detail }))) toldCodes ≡ true)
-    → (sweep : Sweep) (ps : List Push) → some test (flat (tells sweep) ps) ≡ false
-told-fails test h sweep ps = all-fail test (flat (tells sweep) ps) (told-pass (λ (e : Event). not (test e)) h sweep ps)
+    → (terms : Terms) (sweep : Sweep) (ps : List Push) → some test (flat (tells terms sweep) ps) ≡ false
+told-fails test h terms sweep ps = all-fail test (flat (tells terms sweep) ps) (told-pass (λ (e : Event). not (test e)) h terms sweep ps)
 
 -- ---- partings
 

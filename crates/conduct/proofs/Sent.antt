@@ -12,7 +12,7 @@ use Rattle.laws.proofs.Tests.{neither, or-last, true-false}
 use Rattle.message.proofs.Laws.{cond-both}
 use Rattle.conduct.specs.Lists.{flat, some}
 use Rattle.conduct.specs.Numbers.{allNumbered}
-use Rattle.conduct.specs.Pushes.{tells}
+use Rattle.conduct.specs.Pushes.{termsOf, tells}
 use Rattle.conduct.specs.Session.{Session, stateNumber, held}
 use Rattle.conduct.specs.Rules.{goes, ages, note, tick, nextNumber}
 use Rattle.conduct.specs.Step.{partingNotes, remarkNotes, lastAfterParting, eventsBy, Answered}
@@ -50,13 +50,13 @@ remark-says hs last (remarks.Send Advisory handle) = refl
 pub says-by : (s : Session) (m : Move) → saysSessionOk (eventsBy s m) ≡ isSessionOk (m .remark)
 says-by s m =
     let parted = allNumbered (held s) (s .last) (partingNotes (m .parting)) in
-    let told = flat (tells (m .sweep)) (s .pushes) in
+    let told = flat (tells (termsOf (s .site)) (m .sweep)) (s .pushes) in
     let remarked = allNumbered (held s) (lastAfterParting s m) (remarkNotes (m .remark)) in
     some-append isHeartbeat parted (told ++ remarked)
     ∙ rw (
       parting-fails isHeartbeat (held s) (λ l. refl) (m .parting) (s .last),
       some-append isHeartbeat told remarked,
-      told-fails isHeartbeat (λ n d. refl) (m .sweep) (s .pushes),
+      told-fails isHeartbeat (λ n d. refl) (termsOf (s .site)) (m .sweep) (s .pushes),
     )
     (remark-says (held s) (lastAfterParting s m) (m .remark))
 
@@ -132,11 +132,11 @@ Open state n = (state ≡ Confirming n 0) ⊎ (state ≡ Up (awaited.Ok n) 0)
 abbrev sentOk : Session → Event
 sentOk s = record { code = 3; number = nextNumber s; detail = 0 }
 
-its-number : (s : Session) (sweep : Sweep) (a b : List Event) (e : Event) → flat (tells sweep) (s .pushes) ++ sentOk s ∷ [] ≡ a ++ e ∷ b
+its-number : (s : Session) (sweep : Sweep) (a b : List Event) (e : Event) → flat (tells (termsOf (s .site)) sweep) (s .pushes) ++ sentOk s ∷ [] ≡ a ++ e ∷ b
     → e .code ≡ 3 → nextNumber s ≡ e .number
 its-number s sweep a b e h t =
     ap (λ (x : Event). x .number)
-    (sym (last-one (flat (tells sweep) (s .pushes)) (sentOk s) e a b (told-fails isHeartbeat (λ n d. refl) sweep (s .pushes)) h t))
+    (sym (last-one (flat (tells (termsOf (s .site)) sweep) (s .pushes)) (sentOk s) e a b (told-fails isHeartbeat (λ n d. refl) (termsOf (s .site)) sweep (s .pushes)) h t))
 
 move-opens : (s : Session) (m : Move) → Sends (nextNumber s) m → (a b : List Event) (e : Event) → eventsBy s m ≡ a ++ e ∷ b → e .code ≡ 3
     → Open (m .to) (e .number)

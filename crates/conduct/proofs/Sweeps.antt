@@ -3,12 +3,12 @@
 use mathlib.Core.Path.{_≡_, refl, sym, ap}
 use mathlib.Core.Bool.{Bool, true, false, cond, _||_}
 use mathlib.Core.List.{List, [], append-nil}
-use Prim.Native.Nat.{ℕ}
+use Prim.Native.Nat.{ℕ, _+_}
 use lib.Dec.{ltb, eqb}
 use Rattle.message.proofs.Laws.{cond-both}
 use Rattle.conduct.specs.Lists.{flat, those}
 use Rattle.conduct.specs.Codes.{closedAdvised, closedTimedOut}
-use Rattle.conduct.specs.Pushes.{eventOf, sentOnce, againOr, fateOf, keptBy, toldBy, keeps, tells}
+use Rattle.conduct.specs.Pushes.{eventOf, mayGoAgain, againOr, fateOf, keptBy, toldBy, keeps, tells}
 use Rattle.conduct.specs.History.{closing, about}
 use Rattle.conduct.specs.declared.Event.{Event}
 use Rattle.conduct.specs.declared.Push.{Push}
@@ -16,6 +16,7 @@ use Rattle.conduct.specs.declared.Sweep.{Sweep}
 use Rattle.conduct.specs.declared.Sweep.the-variants.{Still, Older, Lost, Acknowledged, UnreadableMessage, Advised}
 use Rattle.conduct.specs.declared.Fate.{Fate}
 use Rattle.conduct.specs.declared.Fate.the-variants.{Keep, Again, Close}
+use Rattle.conduct.specs.declared.Terms.{Terms}
 use Rattle.conduct.proofs.Lists.{sieve}
 
 -- the open pushes with the number n
@@ -50,17 +51,17 @@ the-same p = record { kind = refl; named = refl; handled = refl }
 its : (p : Push) (code : ℕ) → Tells p (eventOf code p)
 its p code = record { named = refl; handled = refl }
 
-again-or-of : (p : Push) (code : ℕ) → closing code ≡ true → Of p (againOr code p)
-again-or-of p code c = cond-both (Of p) (sentOnce p) (record { kind = refl; named = refl; handled = refl }, its p 5, refl) (its p code, c)
+again-or-of : (terms : Terms) (p : Push) (code : ℕ) → closing code ≡ true → Of p (againOr terms code p)
+again-or-of terms p code c = cond-both (Of p) (mayGoAgain terms p) (record { kind = refl; named = refl; handled = refl }, its p 5, refl) (its p code, c)
 
-pub fate-of : (sweep : Sweep) (p : Push) → Of p (fateOf sweep p)
-fate-of Still p = the-same p
-fate-of Older p =
-    cond-both (Of p) (ltb (p .age) 19) (record { kind = refl; named = refl; handled = refl }) (again-or-of p closedTimedOut refl)
-fate-of Lost p = (its p 12, refl)
-fate-of (Acknowledged n) p = cond-both (Of p) (is n p) (its p 9, refl) (the-same p)
-fate-of (UnreadableMessage n) p = cond-both (Of p) (is n p) (again-or-of p closedAdvised refl) (the-same p)
-fate-of (Advised n) p = cond-both (Of p) (is n p) (its p 10, refl) (the-same p)
+pub fate-of : (terms : Terms) (sweep : Sweep) (p : Push) → Of p (fateOf terms sweep p)
+fate-of terms Still p = the-same p
+fate-of terms Older p =
+    cond-both (Of p) (ltb (p .age + 1) (terms .ticks)) (record { kind = refl; named = refl; handled = refl }) (again-or-of terms p closedTimedOut refl)
+fate-of terms Lost p = (its p 12, refl)
+fate-of terms (Acknowledged n) p = cond-both (Of p) (is n p) (its p 9, refl) (the-same p)
+fate-of terms (UnreadableMessage n) p = cond-both (Of p) (is n p) (again-or-of terms p closedAdvised refl) (the-same p)
+fate-of terms (Advised n) p = cond-both (Of p) (is n p) (its p 10, refl) (the-same p)
 
 -- ---- what is said of n, and left of n
 
@@ -85,9 +86,9 @@ kept-mine n p (Keep q) h = rw (h .named) (append-nil _)
 kept-mine n p (Again q e) h = rw (h .0 .named) (append-nil _)
 kept-mine n p (Close e) h = sym (cond-same (is n p) [])
 
-module _ (n : ℕ) (sweep : Sweep) (ps : List Push) where
-  pub sweep-told : those (about n) (flat (tells sweep) ps) ≡ flat (tells sweep) (mine n ps)
-  sweep-told = sieve (about n) (is n) (tells sweep) (λ p. told-mine n p (fateOf sweep p) (fate-of sweep p)) ps
+module _ (n : ℕ) (terms : Terms) (sweep : Sweep) (ps : List Push) where
+  pub sweep-told : those (about n) (flat (tells terms sweep) ps) ≡ flat (tells terms sweep) (mine n ps)
+  sweep-told = sieve (about n) (is n) (tells terms sweep) (λ p. told-mine n p (fateOf terms sweep p) (fate-of terms sweep p)) ps
 
-  pub sweep-kept : mine n (flat (keeps sweep) ps) ≡ flat (keeps sweep) (mine n ps)
-  sweep-kept = sieve (is n) (is n) (keeps sweep) (λ p. kept-mine n p (fateOf sweep p) (fate-of sweep p)) ps
+  pub sweep-kept : mine n (flat (keeps terms sweep) ps) ≡ flat (keeps terms sweep) (mine n ps)
+  sweep-kept = sieve (is n) (is n) (keeps terms sweep) (λ p. kept-mine n p (fateOf terms sweep p) (fate-of terms sweep p)) ps

@@ -7,7 +7,7 @@ use native.Mathlib.Omega.{arith}
 use lib.ListN.{length}
 use Rattle.conduct.specs.Lists.{flat, only, those}
 use Rattle.conduct.specs.Numbers.{Note, takesNumber, nextFree, lastAfterAll, allNumbered}
-use Rattle.conduct.specs.Pushes.{tells}
+use Rattle.conduct.specs.Pushes.{termsOf, tells}
 use Rattle.conduct.specs.Session.{Session, held}
 use Rattle.conduct.specs.Step.{partingNotes, remarkNotes, lastAfterParting, eventsBy, movedBy, Answered}
 use Rattle.conduct.specs.History.{takes}
@@ -16,6 +16,7 @@ use Rattle.conduct.specs.declared.Event.{Event}
 use Rattle.conduct.specs.declared.Push.{Push}
 use Rattle.conduct.specs.declared.Sweep.{Sweep}
 use Rattle.conduct.specs.declared.Move.{Move}
+use Rattle.conduct.specs.declared.Terms.{Terms}
 use Rattle.conduct.proofs.Lists.{flat-append, map-append, none-those}
 use Rattle.conduct.proofs.Free.{next-after}
 use Rattle.conduct.proofs.Good.{good, few-held}
@@ -31,9 +32,9 @@ taken-append xs ys =
     ∙ map-append (λ (e : Event). e .number) (those taking xs) (those taking ys)
 
 -- what is said of an open push takes none
-told-takes : (sweep : Sweep) (ps : List Push) → numbersTaken (flat (tells sweep) ps) ≡ []
-told-takes sweep ps =
-    ap (map (λ (e : Event). e .number)) (none-those taking (flat (tells sweep) ps) (told-fails taking (λ n d. refl) sweep ps))
+told-takes : (terms : Terms) (sweep : Sweep) (ps : List Push) → numbersTaken (flat (tells terms sweep) ps) ≡ []
+told-takes terms sweep ps =
+    ap (map (λ (e : Event). e .number)) (none-those taking (flat (tells terms sweep) ps) (told-fails taking (λ n d. refl) terms sweep ps))
 
 module _ (hs : List ℕ) where
   then-taken : {n m last : ℕ} {ms ns : List ℕ} → Taken hs n ms m → Taken hs m ns last → Taken hs n (ms ++ ns) last
@@ -59,9 +60,9 @@ move-taken : (s : Session) (m : Move) → length (held s) < 2 ^ 32
     → Taken (held s) (s .last) (numbersTaken (eventsBy s m)) (movedBy s m .last)
 move-taken s m few =
     let p = allNumbered (held s) (s .last) (partingNotes (m .parting)) in
-    let t = flat (tells (m .sweep)) (s .pushes) in
+    let t = flat (tells (termsOf (s .site)) (m .sweep)) (s .pushes) in
     let r = allNumbered (held s) (lastAfterParting s m) (remarkNotes (m .remark)) in
-    rw (taken-append p (t ++ r), taken-append t r, told-takes (m .sweep) (s .pushes))
+    rw (taken-append p (t ++ r), taken-append t r, told-takes (termsOf (s .site)) (m .sweep) (s .pushes))
     (then-taken (held s) (notes-taken (held s) few (partingNotes (m .parting)) (s .last))
     (notes-taken (held s) few (remarkNotes (m .remark)) (lastAfterParting s m)))
 

@@ -18,7 +18,7 @@ use Rattle.message.specs.declared.Message.{Message}
 use Rattle.message.proofs.Laws.{cond-cases, cond-both}
 use Rattle.conduct.specs.Lists.{those, some, among}
 use Rattle.conduct.specs.Codes.{closedAdvised, closedTimedOut, closedLost}
-use Rattle.conduct.specs.Pushes.{eventOf, sentOnce, againOr, keptBy, toldBy}
+use Rattle.conduct.specs.Pushes.{termsOf, eventOf, mayGoAgain, againOr, keptBy, toldBy}
 use Rattle.conduct.specs.Session.{Session, isUp, awaitedNumbers, pushNumbers, sessionOkNumbers, refusalOf}
 use Rattle.conduct.specs.Sound.{sound}
 use Rattle.conduct.specs.Table.{actionOf}
@@ -38,6 +38,7 @@ use Rattle.conduct.specs.declared.Call.{Call}
 use Rattle.conduct.specs.declared.Call.the-variants as calls
 use Rattle.conduct.specs.declared.Sweep.the-variants as sweeps
 use Rattle.conduct.specs.declared.Move.{Move}
+use Rattle.conduct.specs.declared.Terms.{Terms}
 use Rattle.conduct.proofs.Lists.{among-append}
 use Rattle.conduct.proofs.Good.{good, few-held}
 use Rattle.conduct.proofs.Moves.{Usual, move-usual}
@@ -95,22 +96,22 @@ ticks-borne n x xs = go (accepted x) (isTick (x .call)) (few-call n (x .call) .1
 
 -- ---- turns by what bears on the push
 
-again-or : (bs : List Bearing) (code : ℕ) (q : Push) → ((bs ≡ ticked ∷ []) × (19 ≤ q .age)) ⊎ (bs ≡ unreadableMessage ∷ [])
-    → Turned bs q (Close (eventOf code q)) → Turned bs q (againOr code q)
-again-or bs code q by else = cond-cases (Turned bs q) (sentOnce q) (λ e. again by e) (λ e. else)
+again-or : (terms : Terms) (bs : List Bearing) (code : ℕ) (q : Push) → ((bs ≡ ticked ∷ []) × (terms .ticks ≤ q .age + 1)) ⊎ (bs ≡ unreadableMessage ∷ [])
+    → Turned terms bs q (Close (eventOf code q)) → Turned terms bs q (againOr terms code q)
+again-or terms bs code q by else = cond-cases (Turned terms bs q) (mayGoAgain terms q) (λ e. again by e) (λ e. else)
 
-turned-by : (bs : List Bearing) (q : Push) → length bs ≤ 1 → Turned bs q (fateIn bs q)
-turned-by [] q few = stays refl
-turned-by (ticked ∷ []) q few =
-    cond-cases (Turned (ticked ∷ []) q) (ltb (q .age) 19) (λ e. ages refl (ltb-true (q .age) 19 e))
+turned-by : (terms : Terms) (bs : List Bearing) (q : Push) → length bs ≤ 1 → Turned terms bs q (fateIn terms bs q)
+turned-by terms [] q few = stays refl
+turned-by terms (ticked ∷ []) q few =
+    cond-cases (Turned terms (ticked ∷ []) q) (ltb (q .age + 1) (terms .ticks)) (λ e. ages refl (ltb-true (q .age + 1) (terms .ticks) e))
     (λ e.
-    again-or (ticked ∷ []) closedTimedOut q (inl (refl, ltb-false (q .age) 19 e))
+    again-or terms (ticked ∷ []) closedTimedOut q (inl (refl, ltb-false (q .age + 1) (terms .ticks) e))
     (closes 11 refl (λ i. absurd (omega arith)) (λ i. cc)))
-turned-by (acknowledged ∷ []) q few = closes 9 refl (λ e. refl) (λ e. refl)
-turned-by (unreadableMessage ∷ []) q few =
-    again-or (unreadableMessage ∷ []) closedAdvised q (inr refl) (closes 10 refl (λ e. absurd (omega arith)) (λ e. cc))
-turned-by (advised ∷ []) q few = closes 10 refl (λ e. absurd (omega arith)) (λ e. cc)
-turned-by (b ∷ b′ ∷ bs) q few = absurd (omega arith)
+turned-by terms (acknowledged ∷ []) q few = closes 9 refl (λ e. refl) (λ e. refl)
+turned-by terms (unreadableMessage ∷ []) q few =
+    again-or terms (unreadableMessage ∷ []) closedAdvised q (inr refl) (closes 10 refl (λ e. absurd (omega arith)) (λ e. cc))
+turned-by terms (advised ∷ []) q few = closes 10 refl (λ e. absurd (omega arith)) (λ e. cc)
+turned-by terms (b ∷ b′ ∷ bs) q few = absurd (omega arith)
 
 -- ---- leaving Up: no Ok does
 
@@ -171,9 +172,14 @@ module _ (n : ℕ) (s : Session) (up : isUp (s .state) ≡ true) where
 
 -- ---- the turn
 
-pub record Turn (n : ℕ) (q : Push) (bs : List Bearing) (es : List Event) (rest : List Push) : Type 0 where
+-- what becomes of a push in a call, after which the session is up or not
+abbrev pub fateAfter : Bool → Terms → List Bearing → Push → Fate
+fateAfter up terms bs q = cond up (fateIn terms bs q) (Close (eventOf closedLost q))
+
+pub record Turn (terms : Terms) (n : ℕ) (q : Push) (up : Bool) (bs : List Bearing) (es : List Event) (rest : List Push) : Type 0 where
   pub fate : Fate
-  pub is : Turned bs q fate
+  pub just : fate ≡ fateAfter up terms bs q
+  pub is : Turned terms bs q fate
   pub told : those (about n) es ≡ toldBy fate
   pub kept : rest ≡ keptBy fate
   pub ungiven : some (gives n) es ≡ false
@@ -198,15 +204,16 @@ module _ (n : ℕ) (q : Push) (s : Session) (ok : sound s ≡ true) (alone : min
       one-not-none (none-mine n (s .pushes) (neither (among n (sessionOkNumbers (s .state))) _ (sym parts ∙ free) .1)))
 
   abbrev Accepted : Call → Type 0
-  Accepted c = Turn n q (callBearing n c) (eventsBy s (moveOf s c)) (mine n (movedBy s (moveOf s c) .pushes))
+  Accepted c = Turn (termsOf (s .site)) n q (isUp (moveOf s c .to)) (callBearing n c) (eventsBy s (moveOf s c)) (mine n (movedBy s (moveOf s c) .pushes))
 
   -- the session stays up, or is left and every push is closed
   while-up : (c : Call) → refusalOf s c ≡ 0 → isUp (moveOf s c .to) ≡ true → Accepted c
   while-up c z u =
       let bs : List Bearing = callBearing n c in
       record {
-        fate = fateIn bs q;
-        is = turned-by bs q (few-call n c .0);
+        fate = fateIn (termsOf (s .site)) bs q;
+        just = rw u;
+        is = turned-by (termsOf (s .site)) bs q (few-call n c .0);
         told = call-told n s c z ∙ (borne toldBy n c s ok is-up u ∙ rw alone (append-nil _));
         kept = call-left n s (moveOf s c) (not-given c) ∙ (borne keptBy n c s ok is-up u ∙ rw alone (append-nil _));
         ungiven = not-given c;
@@ -217,6 +224,7 @@ module _ (n : ℕ) (q : Push) (s : Session) (ok : sound s ≡ true) (alone : min
       let other : callBearing n c ≡ acknowledged ∷ [] → ⊥ = λ i. true-false (rw i) (call-leaves n s is-up c d) in
       record {
         fate = Close (eventOf closedLost q);
+        just = rw d;
         is = closes 12 refl (λ i. absurd (omega arith)) (λ i. absurd (other i));
         told = call-told n s c z ∙ rw (e, alone);
         kept = call-left n s (moveOf s c) (not-given c) ∙ rw (e, alone);
@@ -234,11 +242,11 @@ module _ (n : ℕ) (q : Push) (s : Session) (ok : sound s ≡ true) (alone : min
       go true u = while-up c z u
       go false d = leaving-up c z d (departing (moveOf s c) (move-usual s c z) d)
 
-  pub turn : (c : Call) → Turn n q (bearing n (entry s c)) (entry s c .events) (mine n (step s c .next .pushes))
+  pub turn : (c : Call) → Turn (termsOf (s .site)) n q (isUp (entry s c .state)) (bearing n (entry s c)) (entry s c .events) (mine n (step s c .next .pushes))
   turn c = go (refusalOf s c) refl
     where
       go : (k : ℕ) → refusalOf s c ≡ k
-          → Turn n q (cond (eqb (answer k s c .refusal) 0) (callBearing n c) []) (answer k s c .events)
+          → Turn (termsOf (s .site)) n q (isUp (answer k s c .next .state)) (cond (eqb (answer k s c .refusal) 0) (callBearing n c) []) (answer k s c .events)
           (mine n (answer k s c .next .pushes))
       go zero z = on-accepted c z
-      go (suc k) z = rw (eqb·suc-zero k) (record { fate = Keep q; is = stays refl; told = refl; kept = alone; ungiven = refl })
+      go (suc k) z = rw (eqb·suc-zero k) (record { fate = Keep q; just = rw is-up; is = stays refl; told = refl; kept = alone; ungiven = refl })

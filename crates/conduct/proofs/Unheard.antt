@@ -9,14 +9,14 @@ use lib.Dec.{ltb, eqb}
 use borrow.Author.Tests.{ltb-true, eqb-true}
 use Rattle.message.proofs.Laws.{cond-cases}
 use Rattle.conduct.specs.Lists.{flat, all}
-use Rattle.conduct.specs.Pushes.{tells}
+use Rattle.conduct.specs.Pushes.{termsOf, tells}
 use Rattle.conduct.specs.Session.{Session, stateNumber, isUp}
 use Rattle.conduct.specs.Sound.{soundState, sound}
 use Rattle.conduct.specs.Rules.{ages, tick, nextNumber}
 use Rattle.conduct.specs.Step.{eventsBy, Answered, step}
-use Rattle.conduct.specs.History.{Entry, entry, history, sessionAfter, ticks, Bearing, callBearing, bearing, ofPush}
+use Rattle.conduct.specs.History.{codesOf, Entry, entry, history, sessionAfter, ticks, Bearing, callBearing, bearing, ofPush}
 use Rattle.conduct.specs.History.Bearing.{ticked}
-use Rattle.conduct.specs.Timers.{codesOf, unanswered, HeartbeatUnheard, HeardStaysUp}
+use Rattle.conduct.specs.Timers.{unanswered, HeartbeatUnheard, HeardStaysUp}
 use Rattle.conduct.specs.declared.Awaited.the-variants as awaited
 use Rattle.conduct.specs.declared.State.{State}
 use Rattle.conduct.specs.declared.State.the-variants.{Waiting, Up}
@@ -103,14 +103,14 @@ still-open n cs s ok h keeps =
 unheard-quiet : (t : Session) (n a : ℕ) → t .state ≡ Up (awaited.Ok n) a → suc a < 20
     → (all ofPush (step t calls.Tick .events) ≡ true) × (isUp (step t calls.Tick .next .state) ≡ true)
 unheard-quiet t n a e h =
-    rw (tick-taken t (Up (awaited.Ok n) a) e refl, not-before a h, append-nil (flat (tells sweeps.Older) (t .pushes)))
-    (told-pass ofPush (λ n d. refl) sweeps.Older (t .pushes), refl)
+    rw (tick-taken t (Up (awaited.Ok n) a) e refl, not-before a h, append-nil (flat (tells (termsOf (t .site)) sweeps.Older) (t .pushes)))
+    (told-pass ofPush (λ n d. refl) (termsOf (t .site)) sweeps.Older (t .pushes), refl)
 
 unheard-last : (t : Session) (n a : ℕ) → t .state ≡ Up (awaited.Ok n) a → suc a ≡ 20
     → (codesOf (step t calls.Tick .events) ≡ 19 ∷ 7 ∷ map (λ (p : Push). 12) (t .pushes)) × (step t calls.Tick .next .state ≡ Waiting 300)
 unheard-last t n a e h =
     rw (tick-taken t (Up (awaited.Ok n) a) e refl, over a h)
-    (ap (λ (codes : List ℕ). 19 ∷ 7 ∷ codes) (lost-codes (t .pushes)), refl)
+    (ap (λ (codes : List ℕ). 19 ∷ 7 ∷ codes) (lost-codes (termsOf (t .site)) (t .pushes)), refl)
 
 pub heartbeat-unheard : HeartbeatUnheard
 heartbeat-unheard s cs n ok e st un =
@@ -128,11 +128,11 @@ abbrev Stays : Session → Move → Type 0
 Stays s m = (all ofPushOrNext (eventsBy s m) ≡ true) × (isUp (m .to) ≡ true)
 
 resting : (s : Session) (age : ℕ) → Stays s (ages (Up awaited.Nothing age) remarks.Nothing)
-resting s age = (rw (append-nil (flat (tells sweeps.Older) (s .pushes))) (told-pass ofPushOrNext (λ n d. refl) sweeps.Older (s .pushes)), refl)
+resting s age = (rw (append-nil (flat (tells (termsOf (s .site)) sweeps.Older) (s .pushes))) (told-pass ofPushOrNext (λ n d. refl) (termsOf (s .site)) sweeps.Older (s .pushes)), refl)
 
 sending : (s : Session) → Stays s (beating (nextNumber s))
 sending s =
-    (all-append ofPushOrNext (flat (tells sweeps.Older) (s .pushes)) _ ∙ both (told-pass ofPushOrNext (λ n d. refl) sweeps.Older (s .pushes)) refl, refl)
+    (all-append ofPushOrNext (flat (tells (termsOf (s .site)) sweeps.Older) (s .pushes)) _ ∙ both (told-pass ofPushOrNext (λ n d. refl) (termsOf (s .site)) sweeps.Older (s .pushes)) refl, refl)
 
 pub heard-stays-up : HeardStaysUp
 heard-stays-up s age e = rw (tick-taken s (Up awaited.Nothing age) e refl) (go (ltb (age + 1) (s .site .interval)) refl)

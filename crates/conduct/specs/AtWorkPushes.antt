@@ -1,4 +1,4 @@
--- Promise: the rules at work: pushes, and the order in a tick. (proofs/PushesAtWork, TickOrderAtWork)
+-- Promise: the rules at work: pushes of a site with one resend, and the order in a tick. (proofs/PushesAtWork, TickOrderAtWork)
 -- Assumes nothing.
 use mathlib.Core.List.{[], _∷_, _++_}
 use Rattle.message.specs.declared.Kind.the-variants as kinds

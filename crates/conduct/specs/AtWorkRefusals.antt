@@ -7,7 +7,7 @@ use Prim.Native.Nat.{ℕ}
 use lib.ListN.{drop}
 use Rattle.message.specs.declared.Kind.the-variants as kinds
 use Rattle.conduct.specs.Lists.{some, all}
-use Rattle.conduct.specs.Session.{Session, usual, fresh, Made, make}
+use Rattle.conduct.specs.Session.{Session, usual, withResends, fresh, Made, make}
 use Rattle.conduct.specs.Sound.{sound}
 use Rattle.conduct.specs.Scripts.{ticking, connected, lost, stop, push, advise, unreadable, bare, ok, advisory}
 use Rattle.conduct.specs.Scripts.{AllAsDue, example, inConnecting, inOpening, inConfirming, inUp, toUp, goingOn, full, fullNumbers}
@@ -22,16 +22,22 @@ use Rattle.conduct.specs.declared.Pushed.the-variants.{Response, Advisor
 
 -- ---- making
 
-abbrev pub made : ℕ → Made
-made interval = record { refusal = 0; session = record { site = record { interval = interval; conduct = New }; state = Waiting 1; pushes = []; last = 0 } }
+abbrev pub made : ℕ → ℕ → Made
+made interval resends =
+    record { refusal = 0; session = record { site = record { interval = interval; conduct = New; resends = resends }; state = Waiting 1; pushes = []; last = 0 } }
 
-abbrev pub refusedMaking : Made
-refusedMaking = record { refusal = 4; session = record { site = record { interval = 21; conduct = New }; state = Stopped; pushes = []; last = 0 } }
+abbrev pub refusedWith : ℕ → Made
+refusedWith refusal =
+    record { refusal = refusal; session = record { site = record { interval = 21; conduct = New; resends = 0 }; state = Stopped; pushes = []; last = 0 } }
 
 abbrev pub MakingAtWork : Type 0
 MakingAtWork =
     map (λ (interval : ℕ). make (usual interval)) (0 ∷ 20 ∷ 21 ∷ 22 ∷ 6000 ∷ 6001 ∷ 4294967295 ∷ [])
-    ≡ refusedMaking ∷ refusedMaking ∷ made 21 ∷ made 22 ∷ made 6000 ∷ refusedMaking ∷ refusedMaking ∷ []
+    ++ map (λ (resends : ℕ). make (withResends resends (usual 21))) (0 ∷ 2 ∷ 3 ∷ 4 ∷ 4294967295 ∷ [])
+    ++ map (λ (interval : ℕ). make (withResends 4 (usual interval))) (20 ∷ 6001 ∷ 6000 ∷ [])
+    ≡ refusedWith 4 ∷ refusedWith 4 ∷ made 21 1 ∷ made 22 1 ∷ made 6000 1 ∷ refusedWith 4 ∷ refusedWith 4
+    ∷ made 21 0 ∷ made 21 2 ∷ made 21 3 ∷ refusedWith 18 ∷ refusedWith 18
+    ∷ refusedWith 4 ∷ refusedWith 4 ∷ refusedWith 18 ∷ []
 
 -- ---- refused calls
 
@@ -137,6 +143,11 @@ inStates states pushes = map (λ (state : State). sessionWith 21 state pushes) s
 abbrev pub upWith : List (List Push) → List Session
 upWith rows = map (λ (pushes : List Push). sessionWith 21 (Up (awaited.Ok 2) 0) pushes) rows
 
+-- in Up, at a site with so many resends
+abbrev pub upResending : ℕ → List (List Push) → List Session
+upResending resends rows =
+    map (λ (pushes : List Push). record { site = withResends resends (usual 21); state = Up awaited.Nothing 0; pushes = pushes; last = 0 }) rows
+
 abbrev pub passing : List Session
 passing =
     sessionWith 6000 (Up awaited.Nothing 5999) []
@@ -148,6 +159,9 @@ passing =
     ∷ (aPush Advisory 4 1 0 ∷ aPush Advisory 5 1 19 ∷ [])
     ∷ responses fullNumbers
     ∷ [])
+    ++ upResending 0 ((aPush Response 4 1 19 ∷ aPush Advisory 5 1 19 ∷ []) ∷ [])
+    ++ upResending 2 ((aPush Response 4 3 19 ∷ []) ∷ [])
+    ++ upResending 3 ((aPush Response 4 4 19 ∷ aPush Response 5 1 0 ∷ aPush Advisory 6 1 0 ∷ []) ∷ [])
 
 -- in each state, with an interval that is not allowed
 abbrev pub inAll : ℕ → List Session
@@ -176,6 +190,11 @@ failing =
     ∷ responses (4 ∷ 5 ∷ 4 ∷ [])
     ∷ responses (5 ∷ 4 ∷ 4 ∷ [])
     ∷ [])
+    ++ upResending 0 ((aPush Response 4 2 0 ∷ []) ∷ (aPush Response 4 0 0 ∷ []) ∷ (aPush Advisory 4 2 0 ∷ []) ∷ [])
+    ++ upResending 2 ((aPush Response 4 4 0 ∷ []) ∷ [])
+    ++ upResending 3 ((aPush Response 4 5 0 ∷ []) ∷ (aPush Advisory 4 2 0 ∷ []) ∷ (aPush Response 4 4 20 ∷ []) ∷ (aPush Response 4 4294967295 0 ∷ []) ∷ [])
+    ++ upResending 4 ([] ∷ [])
+    ++ upResending 4294967295 ([] ∷ [])
 
 abbrev pub SoundAtWork : Type 0
 SoundAtWork = (all sound passing ≡ true) × (some sound failing ≡ false)

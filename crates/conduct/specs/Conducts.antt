@@ -111,7 +111,7 @@ CountsAs =
 
 -- a session and an answer but for the conduct
 abbrev pub withConduct : Conduct → Session → Session
-withConduct k s = record { site = record { interval = s .site .interval; conduct = k }; state = s .state; pushes = s .pushes; last = s .last }
+withConduct k s = record { site = record { interval = s .site .interval; conduct = k; resends = s .site .resends }; state = s .state; pushes = s .pushes; last = s .last }
 
 abbrev pub answeredIn : Conduct → Answered → Answered
 answeredIn k a = record { refusal = a .refusal; next = withConduct k (a .next); events = a .events }
@@ -164,15 +164,16 @@ CountsAsThroughout =
     → let k : Conduct = s .site .conduct in
     (history s (map (countedCall k) cs) ≡ map (countedEntry k) (history s cs)) × (sessionAfter s (map (countedCall k) cs) ≡ sessionAfter s cs)
 
--- ---- making one: a fresh session of the site that was chosen; the new conduct where only an interval is said, and where the making is refused
+-- ---- making one: a fresh session of the site that was chosen; the new conduct and one resend where only an interval is said, the new conduct and none where the
+-- making is refused
 
 abbrev pub MadeAsChosen : Type 0
 MadeAsChosen = (site : Site) → make site .refusal ≡ 0 → make site .session ≡ record { site = site; state = Waiting 1; pushes = []; last = 0 }
 
 abbrev pub NewWhereUnsaid : Type 0
-NewWhereUnsaid = (interval : ℕ) → usual interval ≡ record { interval = interval; conduct = New }
+NewWhereUnsaid = (interval : ℕ) → usual interval ≡ record { interval = interval; conduct = New; resends = 1 }
 
 abbrev pub NewWhereRefused : Type 0
 NewWhereRefused =
     (site : Site) → (make site .refusal ≡ 0 → ⊥)
-    → make site .session ≡ record { site = record { interval = 21; conduct = New }; state = Stopped; pushes = []; last = 0 }
+    → make site .session ≡ record { site = record { interval = 21; conduct = New; resends = 0 }; state = Stopped; pushes = []; last = 0 }

@@ -4,20 +4,20 @@ use mathlib.Core.Path.{_≡_}
 use mathlib.Core.Bool.{true}
 use mathlib.Core.List.{List, [], _∷_, _++_, map}
 use Prim.Native.Nat.{ℕ}
-use Rattle.conduct.specs.Lists.{flat, those, all}
+use Rattle.conduct.specs.Lists.{flat, all}
 use Rattle.conduct.specs.Session.{Session, isUp}
 use Rattle.conduct.specs.Sound.{sound}
-use Rattle.conduct.specs.History.{Entry, history, Bearing, bearing, about, span}
+use Rattle.conduct.specs.History.{Entry, history, Bearing, bearing, span, sayings}
 use Rattle.conduct.specs.Followed.{firstCode}
-use Rattle.conduct.specs.declared.Event.{Event}
 use Rattle.conduct.specs.declared.Pushed.{Pushed}
 use Rattle.conduct.specs.declared.Call.{Call}
 use Rattle.conduct.specs.declared.Call.the-variants as calls
 
 -- an accepted push of a history, with its number and the entries after it up to a place until which the session stands and the number is not given again
-pub record Standing (what : Pushed) (n : ℕ) (after : List Entry) : Type 0 where
+pub record Standing (what : Pushed) (most n : ℕ) (after : List Entry) : Type 0 where
   pub session : Session
   pub is-sound : sound session ≡ true
+  pub its-resends : session .site .resends ≡ most
   pub made : List Call
   pub before : List Entry
   pub push : Entry
@@ -33,21 +33,19 @@ pub record Standing (what : Pushed) (n : ℕ) (after : List Entry) : Type 0 wher
 abbrev pub bearings : ℕ → List Entry → List Bearing
 bearings n xs = flat (bearing n) xs
 
--- the codes of what an entry says of the push; and for each entry that bears on it
-abbrev pub sayings : ℕ → Entry → List ℕ
-sayings n x = map (λ (e : Event). e .code) (those (about n) (x .events))
-
+-- what is said of it in each entry that bears on it
 abbrev pub sayingsOf : ℕ → List Entry → List (List ℕ)
 sayingsOf n xs = flat (λ (x : Entry). map (λ (b : Bearing). sayings n x) (bearing n x)) xs
 
--- Two pushes of one kind, in two histories or in one, on which the same bears: the same is said of each, at the same of what bears on it.
+-- Two pushes of one kind, in two histories or in one, of sites with as many resends, on which the same bears: the same is said of each, at the same of what bears
+-- on it.
 abbrev pub DecidedByBearings : Type 0
 DecidedByBearings =
-    (what : Pushed) (n n′ : ℕ) (a a′ : List Entry) → Standing what n a → Standing what n′ a′
+    (what : Pushed) (most n n′ : ℕ) (a a′ : List Entry) → Standing what most n a → Standing what most n′ a′
     → bearings n a ≡ bearings n′ a′ → sayingsOf n a ≡ sayingsOf n′ a′
 
 -- Nothing else says anything of it.
 abbrev pub OthersSayNothing : Type 0
 OthersSayNothing =
-    (what : Pushed) (n : ℕ) (a b : List Entry) (x : Entry) → Standing what n (a ++ x ∷ b)
+    (what : Pushed) (most n : ℕ) (a b : List Entry) (x : Entry) → Standing what most n (a ++ x ∷ b)
     → bearing n x ≡ [] → sayings n x ≡ []

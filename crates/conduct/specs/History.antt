@@ -1,7 +1,7 @@
 -- What a host sees of a session over any calls: each call with its refusal, its events and the state after it. A push is a place in this history, and its number
 -- names it until the number is given again. Nothing here looks at the pushes of a session, and codes stand here as the paper's numbers. Assumes nothing.
 use mathlib.Core.Bool.{Bool, true, false, cond, _&&_, _||_}
-use mathlib.Core.List.{List, [], _∷_}
+use mathlib.Core.List.{List, [], _∷_, map}
 use Prim.Native.Nat.{ℕ}
 use lib.Dec.{leb, eqb}
 use lib.ListN.{length}
@@ -108,6 +108,9 @@ bearing n x = cond (accepted x) (callBearing n (x .call)) []
 
 -- ---- events
 
+abbrev pub codesOf : List Event → List ℕ
+codesOf es = map (λ (e : Event). e .code) es
+
 -- 4 and 6: the first sending of a push; 5: sent again; 9 to 12: closed
 abbrev pub firstSending : Event → Bool
 firstSending e = eqb (e .code) 4 || eqb (e .code) 6
@@ -121,8 +124,8 @@ isClosing e = closing (e .code)
 abbrev pub closes : ℕ → Event → Bool
 closes n e = isClosing e && eqb (e .number) n
 
-abbrev pub resends : ℕ → Event → Bool
-resends n e = eqb (e .code) 5 && eqb (e .number) n
+abbrev pub sendsAgain : ℕ → Event → Bool
+sendsAgain n e = eqb (e .code) 5 && eqb (e .number) n
 
 abbrev pub acknowledges : ℕ → Event → Bool
 acknowledges n e = eqb (e .code) 9 && eqb (e .number) n
@@ -159,4 +162,8 @@ abbrev pub closings : ℕ → List Entry → List Event
 closings n xs = those (closes n) (eventsIn (span n xs))
 
 abbrev pub resendings : ℕ → List Entry → List Event
-resendings n xs = those (resends n) (eventsIn (span n xs))
+resendings n xs = those (sendsAgain n) (eventsIn (span n xs))
+
+-- the codes of what an entry says of it
+abbrev pub sayings : ℕ → Entry → List ℕ
+sayings n x = codesOf (those (about n) (x .events))

@@ -23,4 +23,6 @@ pub mod AtWorkPushes
 pub mod AtWorkMessages
 pub mod AtWorkNumbers
 pub mod AtWorkRefusals
+pub mod AtWorkResends
 pub mod Conducts
+pub mod Resends

@@ -1,4 +1,4 @@
--- Promise: the order of events and numbers. (proofs/Acceptance, Leaving, Heartbeats, Taken)
+-- Promise: the order of events and numbers. (proofs/Acceptance, Spoken, Leaving, Heartbeats, Taken)
 -- Assumes nothing.
 use mathlib.Core.Path.{_≡_}
 use mathlib.Core.Bool.{true, false}
@@ -9,7 +9,7 @@ use Rattle.conduct.specs.Lists.{those, some, among}
 use Rattle.conduct.specs.Session.{Session, isUp, held}
 use Rattle.conduct.specs.Sound.{sound}
 use Rattle.conduct.specs.Step.{step}
-use Rattle.conduct.specs.History.{history, sessionAfter, firstSending, isClosing, eventsIn, takes}
+use Rattle.conduct.specs.History.{history, sessionAfter, firstSending, isClosing, ofPush, eventsIn, takes}
 use Rattle.conduct.specs.Followed.{firstCode}
 use Rattle.conduct.specs.declared.Event.{Event}
 use Rattle.conduct.specs.declared.Push.{Push}
@@ -32,6 +32,16 @@ abbrev pub InOrderOfAcceptance : Type 0
 InOrderOfAcceptance =
     (s : Session) (cs : List Call)
     → Thinned (map acceptance (sessionAfter s cs .pushes)) (map acceptance (s .pushes) ++ those firstSending (eventsIn (history s cs)))
+
+-- A call speaks of pushes that were open, of each once at most, in the order in which they were accepted, and by number and handle.
+abbrev pub spokenOf : Event → ℕ × ℕ
+spokenOf e = (e .number, e .detail)
+
+abbrev pub asOpened : Push → ℕ × ℕ
+asOpened p = (p .number, p .handle)
+
+abbrev pub OpenOnesInOrder : Type 0
+OpenOnesInOrder = (s : Session) (c : Call) → Thinned (map spokenOf (those ofPush (step s c .events))) (map asOpened (s .pushes))
 
 -- ---- leaving Up: whatever is said, and then 12 for each open push, in order of acceptance
 

@@ -4,6 +4,7 @@ use mathlib.Core.List.{List, [], _∷_, _++_, map}
 use Prim.Native.Nat.{ℕ}
 use lib.Dec.{leb, ltb}
 use lib.ListN.{length}
+use Rattle.conduct.specs.Pushes.{mostResends}
 use Rattle.conduct.specs.declared.Awaited.{Awaited}
 use Rattle.conduct.specs.declared.Awaited.the-variants as awaited
 use Rattle.conduct.specs.declared.State.{State}
@@ -24,16 +25,19 @@ pub record Session : Type 0 where
   -- the last number taken
   pub last : ℕ
 
--- what is meant where only the ticks from one SessionOk to the next are named: the new conduct
+-- what is meant where only the ticks from one SessionOk to the next are named: the new conduct, and a Response is sent again once
 abbrev pub usual : ℕ → Site
-usual interval = record { interval = interval; conduct = New }
+usual interval = record { interval = interval; conduct = New; resends = 1 }
 
--- a site with another interval, or another conduct
+-- a site with another interval, another conduct, or another number of resends
 abbrev pub atInterval : ℕ → Site → Site
-atInterval interval site = record { interval = interval; conduct = site .conduct }
+atInterval interval site = record { interval = interval; conduct = site .conduct; resends = site .resends }
 
 abbrev pub inConduct : Conduct → Site → Site
-inConduct conduct site = record { interval = site .interval; conduct = conduct }
+inConduct conduct site = record { interval = site .interval; conduct = conduct; resends = site .resends }
+
+abbrev pub withResends : ℕ → Site → Site
+withResends resends site = record { interval = site .interval; conduct = site .conduct; resends = resends }
 
 -- Waiting, one tick left, and no number taken: so the first is 1
 abbrev pub fresh : Site → Session
@@ -45,15 +49,24 @@ fresh site = record { site = site; state = Waiting 1; pushes = []; last = 0 }
 abbrev pub allowedInterval : ℕ → Bool
 allowedInterval interval = leb 21 interval && leb interval 6000
 
+-- refusal 18
+abbrev pub allowedResends : ℕ → Bool
+allowedResends resends = leb resends mostResends
+
 pub record Made : Type 0 where
   pub refusal : ℕ
   pub session : Session
 
+-- what either refusal leaves: a stopped session with the shortest interval and no resends
+abbrev pub refusedMaking : ℕ → Made
+refusedMaking refusal = record { refusal = refusal; session = record { site = withResends 0 (usual 21); state = Stopped; pushes = []; last = 0 } }
+
+-- 4 is looked for first
 abbrev pub make : Site → Made
 make site =
     cond (allowedInterval (site .interval))
-    (record { refusal = 0; session = fresh site })
-    (record { refusal = 4; session = record { site = usual 21; state = Stopped; pushes = []; last = 0 } })
+    (cond (allowedResends (site .resends)) (record { refusal = 0; session = fresh site }) (refusedMaking 18))
+    (refusedMaking 4)
 
 -- ---- the states, by the paper's order
 

@@ -4,7 +4,7 @@ use Prim.Native.Nat.{ℕ, zero, suc}
 use Rattle.conduct.specs.Lists.{flat}
 use Rattle.conduct.specs.Codes.{disconnect, sendAlert, sendGoingOutOfService, sending}
 use Rattle.conduct.specs.Numbers.{Note, nextFree, lastAfterAll, allNumbered}
-use Rattle.conduct.specs.Pushes.{opened, keeps, tells}
+use Rattle.conduct.specs.Pushes.{termsOf, opened, keeps, tells}
 use Rattle.conduct.specs.Session.{Session, held, refusalOf}
 use Rattle.conduct.specs.Rules.{moveOf}
 use Rattle.conduct.specs.declared.Event.{Event}
@@ -46,14 +46,14 @@ lastAfterParting s m = lastAfterAll (held s) (s .last) (partingNotes (m .parting
 abbrev pub eventsBy : Session → Move → List Event
 eventsBy s m =
     allNumbered (held s) (s .last) (partingNotes (m .parting))
-    ++ (flat (tells (m .sweep)) (s .pushes) ++ allNumbered (held s) (lastAfterParting s m) (remarkNotes (m .remark)))
+    ++ (flat (tells (termsOf (s .site)) (m .sweep)) (s .pushes) ++ allNumbered (held s) (lastAfterParting s m) (remarkNotes (m .remark)))
 
 abbrev pub movedBy : Session → Move → Session
 movedBy s m =
     record {
       site = s .site;
       state = m .to;
-      pushes = flat (keeps (m .sweep)) (s .pushes) ++ opens (nextFree (held s) (lastAfterParting s m)) (m .remark);
+      pushes = flat (keeps (termsOf (s .site)) (m .sweep)) (s .pushes) ++ opens (nextFree (held s) (lastAfterParting s m)) (m .remark);
       last = lastAfterAll (held s) (lastAfterParting s m) (remarkNotes (m .remark));
     }
 

@@ -1,5 +1,5 @@
 -- Promise: the session's timers over any calls: how long it waits, opens and confirms, and when it sends a SessionOk. (proofs/WaitingTime, OpeningTime, ConfirmingTime,
--- Unheard, Answers, Sent, Intervals, Entered)
+-- Unheard, Answers, Sent, Intervals, Sites, Entered)
 -- Assumes nothing.
 use mathlib.Core.Path.{_≡_}
 use mathlib.Core.Bool.{Bool, true, false, not, _&&_, _||_}
@@ -11,7 +11,7 @@ use Rattle.conduct.specs.Lists.{some, all}
 use Rattle.conduct.specs.Session.{Session, stateNumber, isUp}
 use Rattle.conduct.specs.Sound.{sound}
 use Rattle.conduct.specs.Step.{step, Answered}
-use Rattle.conduct.specs.History.{Entry, entry, history, sessionAfter, ticks, bearing, adviceBearing, ofPush}
+use Rattle.conduct.specs.History.{Entry, entry, history, sessionAfter, ticks, bearing, adviceBearing, codesOf, ofPush}
 use Rattle.conduct.specs.History.Bearing.{ticked, acknowledged}
 use Rattle.conduct.specs.declared.Awaited.{Awaited}
 use Rattle.conduct.specs.declared.Awaited.the-variants as awaited
@@ -23,9 +23,6 @@ use Rattle.conduct.specs.declared.Call.{Call}
 use Rattle.conduct.specs.declared.Call.the-variants as calls
 
 -- ---- words
-
-abbrev pub codesOf : List Event → List ℕ
-codesOf es = map (λ (e : Event). e .code) es
 
 -- after the calls cs a tick
 abbrev pub tickAfter : Session → List Call → Answered
@@ -129,7 +126,7 @@ EveryInterval =
     → all (λ (x : Entry). isConfirmingOrUp (x .state) && not (saysSessionOk (x .events))) (history s cs) ≡ true
     → Due s cs
 
--- what the session was made with is kept, so the interval is that of the making
+-- what the session was made with is kept: its interval, its conduct and its resends are those of the making
 abbrev pub SiteKept : Type 0
 SiteKept = (s : Session) (cs : List Call) → sessionAfter s cs .site ≡ s .site
 

@@ -65,6 +65,14 @@ pub struct Site {
     // The ticks from one SessionOk to the next.
     pub interval: u32,
     pub conduct: Conduct,
+    // How often a Response is sent again at most.
+    pub resends: u32,
+}
+
+// What an open push is held to: the ticks that each sending has for an answer, and how often a Response is sent again at most.
+pub struct Terms {
+    pub ticks: u32,
+    pub resends: u32,
 }
 
 pub struct Event {

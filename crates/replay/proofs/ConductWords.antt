@@ -19,13 +19,9 @@ use Rattle.conduct.specs.Conducts.{isOld}
 use Rattle.replay.specs.declared.script.Line.{Line}
 use Rattle.replay.specs.declared.script.Line.the-variants as lines
 use Rattle.replay.specs.declared.script.Setting.the-variants as settings
-use Rattle.replay.specs.Script.{isWord, begins, numberedOf, wordedOf, lineOf}
-use Rattle.replay.proofs.Words.{numbered-each}
-use Rattle.replay.specs.Settings.{wordsFor, ConductByItsWords, ConductsAtWork}
-
-pub conducts-at-work : ConductsAtWork
-unfolding lineOf wordedOf numberedOf sameBytes
-conducts-at-work = refl
+use Rattle.replay.specs.Script.{isWord, numberedOf, wordedOf, lineOf}
+use Rattle.replay.proofs.Words.{numbered-each, line-each}
+use Rattle.replay.specs.Settings.{wordsFor, ConductByItsWords}
 
 -- ---- the conduct that a line says
 
@@ -33,6 +29,7 @@ abbrev conductsIn : Line → List Conduct
 conductsIn lines.Nothing = []
 conductsIn (lines.Set (settings.Interval interval)) = []
 conductsIn (lines.Set (settings.Conduct conduct)) = conduct ∷ []
+conductsIn (lines.Set (settings.Resends resends)) = []
 conductsIn (lines.Ticks count) = []
 conductsIn (lines.Other call) = []
 conductsIn lines.Message = []
@@ -43,7 +40,7 @@ abbrev None : Line → Type 0
 None line = conductsIn line ≡ []
 
 numbered-none : (line : List ℕ) → None (numberedOf line)
-numbered-none = numbered-each None (λ n. refl) (λ n. refl) (λ c. refl) (λ n. refl) refl
+numbered-none line = numbered-each None line (λ n _. refl) (λ n _. refl) (λ n. refl) (λ c. refl) (λ n. refl) refl
 
 is-the-word : (word line : List ℕ) → isWord word line ≡ true → line ≡ word
 is-the-word word line h =
@@ -81,14 +78,9 @@ worded Old w =
     Said line = conductsIn line ≡ Old ∷ [] → w ≡ wordsFor Old
 
 says : (k : Conduct) (w : List ℕ) → conductsIn (lineOf w) ≡ k ∷ [] → w ≡ wordsFor k
-unfolding lineOf
 says k w =
-    cond-cases Said (eqb (length w) 0) (λ _ e. absurd (unsaid refl e))
-    (λ _. cond-cases Said (isWord (codes "tick") w) (λ _ e. absurd (unsaid refl e))
-    (λ _. cond-cases Said (isWord (codes "connected") w) (λ _ e. absurd (unsaid refl e))
-    (λ _. cond-cases Said (isWord (codes "lost") w) (λ _ e. absurd (unsaid refl e))
-    (λ _. cond-cases Said (isWord (codes "stop") w) (λ _ e. absurd (unsaid refl e))
-    (λ _. cond-cases Said (begins (codes "message ") w) (λ _ e. absurd (unsaid refl e)) (λ _ e. worded k w e))))))
+    line-each Said w (λ e. absurd (unsaid refl e)) (λ _ e. absurd (unsaid refl e)) (λ _ e. absurd (unsaid refl e)) (λ _ e. absurd (unsaid refl e))
+    (worded k w)
   where
     Said : Line → Type 0
     Said line = conductsIn line ≡ k ∷ [] → w ≡ wordsFor k

@@ -55,7 +55,7 @@ endLine s = field (codes "end") space ++ (field (stateName (stateNumber (s .stat
 abbrev pub lastOf : Phase → Session → List ℕ
 lastOf Settling s = []
 lastOf Running s = endLine s
-lastOf Refused s = stopLine 4
+lastOf (Refused refusal) s = stopLine refusal
 
 unfoldable pub lastLine : Run → List ℕ
 lastLine run = lastOf (run .phase) (run .session)

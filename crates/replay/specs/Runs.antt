@@ -10,7 +10,7 @@ use Rattle.message.specs.Messages.{messageOf}
 use Rattle.conduct.specs.declared.Call.{Call}
 use Rattle.conduct.specs.declared.Call.the-variants as calls
 use Rattle.conduct.specs.declared.Site.{Site}
-use Rattle.conduct.specs.Session.{usual, atInterval, inConduct}
+use Rattle.conduct.specs.Session.{usual, atInterval, inConduct, withResends}
 use Rattle.session.specs.declared.Told.{Told}
 use Rattle.session.specs.Record.{madeOf, withLast}
 use Rattle.session.specs.Answers.{callOf, told}
@@ -29,12 +29,12 @@ use Rattle.replay.specs.Lines.{answerLines, badLine}
 abbrev pub following : ℕ → ℕ
 following n = cond (ltb n 18446744073709551615) (n + 1) n
 
--- settings first; the interval is 100 and the conduct the new one where none is set
+-- settings first; the interval is 100, the conduct the new one and a Response is sent again once where nothing is set
 unfoldable pub freshRun : Run
 freshRun = record { phase = Settling; site = usual 100; session = madeOf (usual 100) .session; call = 1; line = 1 }
 
 abbrev pub phaseBy : ℕ → Phase
-phaseBy refusal = cond (eqb refusal 0) Running Refused
+phaseBy refusal = cond (eqb refusal 0) Running (Refused refusal)
 
 unfoldable pub madeRun : Run → Run
 madeRun run =
@@ -59,7 +59,7 @@ endsSettings lines.Bad = true
 abbrev pub readyIn : Phase → Run → Line → Run
 readyIn Settling run line = cond (endsSettings line) (madeRun run) run
 readyIn Running run line = run
-readyIn Refused run line = run
+readyIn (Refused refusal) run line = run
 
 unfoldable pub readyFor : Run → Line → Run
 readyFor run line = readyIn (run .phase) run line
@@ -73,6 +73,7 @@ nextLine run = record { phase = run .phase; site = run .site; session = run .ses
 abbrev pub siteWith : Setting → Site → Site
 siteWith (settings.Interval interval) site = atInterval interval site
 siteWith (settings.Conduct conduct) site = inConduct conduct site
+siteWith (settings.Resends resends) site = withResends resends site
 
 unfoldable pub settled : Run → Setting → Run
 settled run setting = record { phase = run .phase; site = siteWith setting (run .site); session = run .session; call = run .call; line = run .line }
@@ -128,7 +129,7 @@ set run lines.Bad = run
 abbrev pub takenIn : Phase → Run → Line → List ℕ → Done
 takenIn Settling run line bytes = silent (nextLine (set run line))
 takenIn Running run line bytes = andThen (ran run line bytes) (λ r. silent (nextLine r))
-takenIn Refused run line bytes = silent run
+takenIn (Refused refusal) run line bytes = silent run
 
 unfoldable pub taken : Run → Line → List ℕ → Done
 taken run line bytes = takenIn (readyFor run line .phase) (readyFor run line) line bytes

@@ -34,9 +34,10 @@ behind word line = cond (begins word line) (decimalOf (drop (length word) line))
 abbrev pub ticksOf : ℕ → Line
 ticksOf n = cond (leb 1 n && leb n 1000000) (lines.Ticks n) lines.Bad
 
-abbrev pub orElse : Number → (ℕ → Line) → Line → Line
-orElse (Names n) line other = line n
-orElse Nothing line other = other
+-- what stands for a number that is there, or else the other
+abbrev pub orElse : {A : Type 0} → Number → (ℕ → A) → A → A
+orElse (Names n) of other = of n
+orElse Nothing of other = other
 
 -- a number of any size, without leading zeros
 abbrev pub isDigit : ℕ → Bool
@@ -46,22 +47,30 @@ abbrev pub isDecimal : List ℕ → Bool
 isDecimal [] = false
 isDecimal (d ∷ digits) = not (leadingZero (d ∷ digits)) && all isDigit (d ∷ digits)
 
+-- a figure that a setting says: a number of any size without leading zeros; one that is too long for 32 bits stands for the greatest
+-- number, which the making refuses as it would the other
+abbrev pub figureOf : List ℕ → Number
+figureOf text = orElse (decimalOf text) Names (cond (isDecimal text) (Names 4294967295) Nothing)
+
+-- the figure that stands behind the word, which ends with a space
+abbrev pub figureBehind : List ℕ → List ℕ → Number
+figureBehind word line = cond (begins word line) (figureOf (drop (length word) line)) Nothing
+
 abbrev pub anInterval : ℕ → Line
 anInterval n = lines.Set (settings.Interval n)
 
--- a setting of the interval; one that is too long for 32 bits stands for the greatest number, which the making refuses as it would the
--- other
-abbrev pub intervalOf : List ℕ → Line
-intervalOf text = orElse (decimalOf text) anInterval (cond (isDecimal text) (anInterval 4294967295) lines.Bad)
+abbrev pub someResends : ℕ → Line
+someResends n = lines.Set (settings.Resends n)
 
 unfoldable pub numberedOf : List ℕ → Line
 numberedOf line =
-    cond (begins (codes "interval ") line) (intervalOf (drop 9 line))
+    orElse (figureBehind (codes "interval ") line) anInterval
+    (orElse (figureBehind (codes "resends ") line) someResends
     (orElse (behind (codes "tick ") line) ticksOf
     (orElse (behind (codes "push ") line) (λ n. lines.Other (calls.Push pushed.Response n))
     (orElse (behind (codes "advise ") line) (λ n. lines.Other (calls.Push pushed.Advisory n))
     (orElse (behind (codes "unreadable ") line) (λ n. lines.Other (calls.Unreadable n))
-    (orElse (behind (codes "last ") line) lines.Last lines.Bad)))))
+    (orElse (behind (codes "last ") line) lines.Last lines.Bad))))))
 
 -- a setting that is words alone, or a word with a number
 unfoldable pub wordedOf : List ℕ → Line

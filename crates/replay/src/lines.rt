@@ -141,6 +141,6 @@ pub(crate) fn last(out: &mut [u8], run: Run) -> usize
     match phase {
         Phase::Settling => 0,
         Phase::Running => end(out, session),
-        Phase::Refused => stop(out, 4),
+        Phase::Refused(refusal) => stop(out, refusal),
     }
 }

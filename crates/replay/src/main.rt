@@ -129,7 +129,7 @@ fn take_line(before: Run, line: Line, bytes: &[u8]) -> Run
     match phase {
         Phase::Settling => runs::next_line(set_line(run, line)),
         Phase::Running => runs::next_line(run_line(run, line, bytes)),
-        Phase::Refused => run,
+        Phase::Refused(_) => run,
     }
 }
 

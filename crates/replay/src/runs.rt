@@ -11,7 +11,7 @@ ghost use Rattle.replay.specs.Runs.{following, freshRun, madeRun, endsSe
 pub(crate) enum Phase {
     Settling,
     Running,
-    Refused,
+    Refused(u32),
 }
 
 pub(crate) struct Run {
@@ -56,7 +56,7 @@ fn made(run: Run) -> Run
     let session = made.session;
     let mut phase = Phase::Running;
     if made.refusal != 0 {
-        phase = Phase::Refused;
+        phase = Phase::Refused(made.refusal);
     }
     Run {
         phase,
@@ -89,7 +89,7 @@ pub(crate) fn ready(run: Run, line: Line) -> Run
     match phase {
         Phase::Settling => { if ends_settings(line) { made(run) } else { run } }
         Phase::Running => run,
-        Phase::Refused => run,
+        Phase::Refused(_) => run,
     }
 }
 
@@ -126,14 +126,22 @@ pub(crate) fn next_line(run: Run) -> Run
 fn site_with(setting: Setting, site: Site) -> Site
     ensures { λ r. ⌜ r ≡ siteWith setting site ⌝ }
 {
+    let conduct = site.conduct;
     match setting {
-        Setting::Interval(interval) => {
-            let conduct = site.conduct;
-            Site { interval, conduct }
-        }
-        Setting::Conduct(conduct) => Site {
+        Setting::Interval(interval) => Site {
+            interval,
+            conduct,
+            resends: site.resends,
+        },
+        Setting::Conduct(other) => Site {
+            interval: site.interval,
+            conduct: other,
+            resends: site.resends,
+        },
+        Setting::Resends(resends) => Site {
             interval: site.interval,
             conduct,
+            resends,
         },
     }
 }

@@ -7,12 +7,13 @@ ghost use mathlib.Core.Path.{_≡_};
 ghost use Prim.Native.Nat.{_≤_};
 ghost use lib.ListN.{length, drop};
 ghost use Rattle.conduct.specs.Lists.{all};
-ghost use Rattle.replay.specs.Script.{behind as Script·behind, isWord as Script·isWord, ticksOf, isDigit, isDecimal, intervalOf, numberedOf, wordedOf, lineOf};
+ghost use Rattle.replay.specs.Script.{behind as Script·behind, isWord as Script·isWord, ticksOf, isDigit, isDecimal, figureOf, figureBehind, numberedOf, wordedOf, lineOf};
 
 // One of the things that a session is made with.
 pub(crate) enum Setting {
     Interval(u32),
     Conduct(Conduct),
+    Resends(u32),
 }
 
 // What a line stands for.
@@ -91,27 +92,42 @@ fn all_digits(line: &[u8], from: usize) -> bool
     true
 }
 
-// A line that begins with the word `interval` and its space. A number that is too long for 32 bits is a setting too: the making refuses it.
-fn interval(line: &[u8]) -> Line
-    requires { ⌜ 9 ≤ length (now line) ⌝ }
-    ensures { λ r. ⌜ r ≡ intervalOf (drop 9 (now (line .entry))) ⌝ }
+// The figure of a setting, from a place on to the line's end. A number that is too long for 32 bits is one too: the making refuses it.
+fn figure(line: &[u8], from: usize) -> Number
+    requires { ⌜ from ≤ length (now line) ⌝ }
+    ensures { λ r. ⌜ r ≡ figureOf (drop from (now (line .entry))) ⌝ }
 {
-    let number = texts::number(line, 9);
+    let number = texts::number(line, from);
     if number.flag() == 1 {
-        return Line::Set(Setting::Interval(number.named()));
+        return number;
     }
-    if is_decimal(line, 9) {
-        return Line::Set(Setting::Interval(u32::MAX));
+    if !is_decimal(line, from) {
+        return Number::Nothing;
     }
-    Line::Bad
+    Number::Names(u32::MAX)
+}
+
+// The figure behind a word that ends with a space.
+fn figure_behind(line: &[u8], word: &[u8]) -> Number
+    ensures { λ r. ⌜ r ≡ figureBehind (now (word .entry)) (now (line .entry)) ⌝ }
+{
+    if !texts::begins(line, word) {
+        return Number::Nothing;
+    }
+    figure(line, word.len())
 }
 
 // A line that has a word and a number.
 fn numbered(line: &[u8]) -> Line
     ensures { λ r. ⌜ r ≡ numberedOf (now (line .entry)) ⌝ }
 {
-    if texts::begins(line, b"interval ") {
-        return interval(line);
+    let interval = figure_behind(line, b"interval ");
+    if interval.flag() == 1 {
+        return Line::Set(Setting::Interval(interval.named()));
+    }
+    let resends = figure_behind(line, b"resends ");
+    if resends.flag() == 1 {
+        return Line::Set(Setting::Resends(resends.named()));
     }
     let count = behind(line, b"tick ");
     if count.flag() == 1 {

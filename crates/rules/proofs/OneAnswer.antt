@@ -13,8 +13,8 @@ use Rattle.message.specs.declared.StatusValue.{StatusValue}
 use Rattle.message.specs.declared.TypeValue.{TypeValue}
 use Rattle.conduct.specs.Lists.{among, distinct}
 use Rattle.conduct.specs.Numbers.{nextFree, takesNumber}
-use Rattle.conduct.specs.Pushes.{isResponse, fateOf}
-use Rattle.conduct.specs.Session.{isStopped, isUp, fits, isPush, allowedInterval, awaitedNumbers}
+use Rattle.conduct.specs.Pushes.{termsOf, isResponse, fateOf}
+use Rattle.conduct.specs.Session.{isStopped, isUp, fits, isPush, allowedInterval, allowedResends, awaitedNumbers}
 use Rattle.conduct.specs.Sound.{soundState, soundPush}
 use Rattle.conduct.specs.Rules as Rules
 use Rattle.conduct.specs.declared.Awaited.{Awaited}
@@ -26,8 +26,10 @@ use Rattle.conduct.specs.declared.Push.{Push}
 use Rattle.conduct.specs.declared.Pushed.{Pushed}
 use Rattle.conduct.specs.declared.Remark.{Remark}
 use Rattle.conduct.specs.declared.Conduct.{Conduct}
+use Rattle.conduct.specs.declared.Site.{Site}
 use Rattle.conduct.specs.declared.State.{State}
 use Rattle.conduct.specs.declared.Sweep.{Sweep}
+use Rattle.conduct.specs.declared.Terms.{Terms}
 
 -- ---- moves
 
@@ -92,6 +94,9 @@ module _ {r r′ : Bool} where
   pub is-allowed-once : (interval : ℕ) → r ≡ allowedInterval interval → r′ ≡ allowedInterval interval → r ≡ r′
   is-allowed-once interval = one-answer
 
+  pub is-resends-allowed-once : (resends : ℕ) → r ≡ allowedResends resends → r′ ≡ allowedResends resends → r ≡ r′
+  is-resends-allowed-once resends = one-answer
+
   pub is-state-sound-once : (interval : ℕ) (state : State) → r ≡ soundState interval state → r′ ≡ soundState interval state → r ≡ r′
   is-state-sound-once interval state = one-answer
 
@@ -103,11 +108,14 @@ module _ {r r′ : Bool} where
 pub is-response-once : (what : Pushed) {r r′ : Bool} → r ≡ isResponse what → r′ ≡ isResponse what → r ≡ r′
 is-response-once what = one-answer
 
-pub fate-of-once : (sweep : Sweep) (p : Push) {r r′ : Fate} → r ≡ fateOf sweep p → r′ ≡ fateOf sweep p → r ≡ r′
-fate-of-once sweep p = one-answer
+pub terms-of-once : (site : Site) {r r′ : Terms} → r ≡ termsOf site → r′ ≡ termsOf site → r ≡ r′
+terms-of-once site = one-answer
 
-pub is-sound-once : (p : Push) {r r′ : Bool} → r ≡ soundPush p → r′ ≡ soundPush p → r ≡ r′
-is-sound-once p = one-answer
+pub fate-of-once : (terms : Terms) (sweep : Sweep) (p : Push) {r r′ : Fate} → r ≡ fateOf terms sweep p → r′ ≡ fateOf terms sweep p → r ≡ r′
+fate-of-once terms sweep p = one-answer
+
+pub is-sound-once : (terms : Terms) (p : Push) {r r′ : Bool} → r ≡ soundPush terms p → r′ ≡ soundPush terms p → r ≡ r′
+is-sound-once terms p = one-answer
 
 -- ---- numbers
 

@@ -1,5 +1,4 @@
 // Moves: where a call leads, what it means for the pushes and what it says; those of a tick, of stop, and of a message that opens the session or names nothing.
-use crate::pushes::LAST_AGE;
 use conduct::Awaited;
 use conduct::Conduct;
 use conduct::Move;
@@ -14,6 +13,9 @@ ghost use Rattle.conduct.specs.declared.Awaited.the-variants as awaiting;
 ghost use Rattle.conduct.specs.declared.Conduct.the-variants as conducts;
 ghost use Rattle.conduct.specs.declared.State.the-variants as states;
 ghost use Rattle.conduct.specs.Rules as Rules;
+
+// The tick after this age is the 20th.
+const LAST_AGE: u32 = 19;
 
 pub fn goes(to: State, remark: Remark) -> Move
     ensures { λ r. ⌜ r ≡ Rules.goes to remark ⌝ }

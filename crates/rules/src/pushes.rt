@@ -1,17 +1,28 @@
 // One open push.
+use crate::sound::MOST_RESENDS;
 use conduct::Event;
 use conduct::Fate;
 use conduct::Push;
 use conduct::Pushed;
+use conduct::Site;
 use conduct::Sweep;
+use conduct::Terms;
 use conduct::codes;
 ghost use mathlib.Core.Path.{_≡_};
-ghost use Prim.Native.Nat.{_<_};
-ghost use Rattle.conduct.specs.Pushes.{eventOf, older as Pushes·older, sentAgain, isResponse, sentOnce, againOr, fateOf};
+ghost use Prim.Native.Nat.{_+_, _≤_};
+ghost use Rattle.conduct.specs.Pushes.{termsOf, eventOf, older as Pushes·older, sentAgain, isResponse, mayGoAgain, againOr, fateOf};
 ghost use Rattle.conduct.specs.Sound.{mostSendings, soundPush};
+ghost use Rattle.conduct.specs.declared.Sweep.the-variants as sweeps;
 
-// The tick after this age is the 20th.
-pub(crate) const LAST_AGE: u32 = 19;
+// What the open pushes of a session are held to.
+pub fn terms_of(site: Site) -> Terms
+    ensures { λ r. ⌜ r ≡ termsOf site ⌝ }
+{
+    Terms {
+        ticks: 20,
+        resends: site.resends,
+    }
+}
 
 fn event_of(code: u32, p: Push) -> Event
     ensures { λ r. ⌜ r ≡ eventOf code p ⌝ }
@@ -23,8 +34,8 @@ fn event_of(code: u32, p: Push) -> Event
     }
 }
 
-fn older(p: Push) -> Push
-    requires { ⌜ p .age < 19 ⌝ }
+fn older(p: Push, age: u32) -> Push
+    requires { ⌜ age ≡ p .age + 1 ⌝ }
     ensures { λ r. ⌜ r ≡ Pushes·older p ⌝ }
 {
     let what = p.what;
@@ -33,11 +44,12 @@ fn older(p: Push) -> Push
         number: p.number,
         handle: p.handle,
         sent: p.sent,
-        age: p.age + 1,
+        age,
     }
 }
 
 fn sent_again(p: Push) -> Push
+    requires { ⌜ p .sent ≤ 3 ⌝ }
     ensures { λ r. ⌜ r ≡ sentAgain p ⌝ }
 {
     let what = p.what;
@@ -45,7 +57,7 @@ fn sent_again(p: Push) -> Push
         what,
         number: p.number,
         handle: p.handle,
-        sent: 2,
+        sent: p.sent + 1,
         age: 0,
     }
 }
@@ -59,39 +71,50 @@ pub fn is_response(what: Pushed) -> bool
     }
 }
 
-fn sent_once(p: Push) -> bool
-    ensures { λ r. ⌜ r ≡ sentOnce p ⌝ }
+// Never beyond the most resends that a site may have, whatever the terms say, so that no count of sendings overflows.
+fn may_go_again(terms: Terms, p: Push) -> bool
+    ensures { λ r. ⌜ r ≡ mayGoAgain terms p ⌝ }
 {
     let what = p.what;
-    if is_response(what) {
-        return p.sent == 1;
+    if !is_response(what) {
+        return false;
     }
-    false
+    if p.sent > terms.resends {
+        return false;
+    }
+    p.sent <= MOST_RESENDS
 }
 
 // Sent again if that may be, and else closed with the code.
-fn again_or(code: u32, p: Push) -> Fate
-    ensures { λ r. ⌜ r ≡ againOr code p ⌝ }
+fn again_or(terms: Terms, code: u32, p: Push) -> Fate
+    ensures { λ r. ⌜ r ≡ againOr terms code p ⌝ }
 {
-    if sent_once(p) {
+    if may_go_again(terms, p) {
         return Fate::Again(sent_again(p), event_of(codes::SEND_RESPONSE_AGAIN, p));
     }
     Fate::Close(event_of(code, p))
 }
 
+// What a tick does to it. Its age is compared before it is added to, so that it does not overflow.
+fn ticked(terms: Terms, p: Push) -> Fate
+    ensures { λ r. ⌜ r ≡ fateOf terms sweeps.Older p ⌝ }
+{
+    if p.age < terms.ticks {
+        let age = p.age + 1;
+        if age < terms.ticks {
+            return Fate::Keep(older(p, age));
+        }
+    }
+    again_or(terms, codes::CLOSED_TIMED_OUT, p)
+}
+
 // What a sweep does to an open push.
-pub fn fate_of(sweep: Sweep, p: Push) -> Fate
-    ensures { λ r. ⌜ r ≡ fateOf sweep p ⌝ }
+pub fn fate_of(terms: Terms, sweep: Sweep, p: Push) -> Fate
+    ensures { λ r. ⌜ r ≡ fateOf terms sweep p ⌝ }
 {
     match sweep {
         Sweep::Still => Fate::Keep(p),
-        Sweep::Older => {
-            if p.age < LAST_AGE {
-                Fate::Keep(older(p))
-            } else {
-                again_or(codes::CLOSED_TIMED_OUT, p)
-            }
-        }
+        Sweep::Older => ticked(terms, p),
         Sweep::Lost => Fate::Close(event_of(codes::CLOSED_LOST, p)),
         Sweep::Acknowledged(number) => {
             if p.number == number {
@@ -102,7 +125,7 @@ pub fn fate_of(sweep: Sweep, p: Push) -> Fate
         }
         Sweep::UnreadableMessage(number) => {
             if p.number == number {
-                again_or(codes::CLOSED_ADVISED, p)
+                again_or(terms, codes::CLOSED_ADVISED, p)
             } else {
                 Fate::Keep(p)
             }
@@ -117,24 +140,25 @@ pub fn fate_of(sweep: Sweep, p: Push) -> Fate
     }
 }
 
-fn most_sendings(what: Pushed) -> u32
-    ensures { λ r. ⌜ r ≡ mostSendings what ⌝ }
+// The sendings after the first.
+fn most_again(terms: Terms, what: Pushed) -> u32
+    ensures { λ r. ⌜ mostSendings terms what ≡ r + 1 ⌝ }
 {
     match what {
-        Pushed::Response => 2,
-        Pushed::Advisory => 1,
+        Pushed::Response => terms.resends,
+        Pushed::Advisory => 0,
     }
 }
 
-pub fn is_sound(p: Push) -> bool
-    ensures { λ r. ⌜ r ≡ soundPush p ⌝ }
+pub fn is_sound(terms: Terms, p: Push) -> bool
+    ensures { λ r. ⌜ r ≡ soundPush terms p ⌝ }
 {
     if p.sent < 1 {
         return false;
     }
     let what = p.what;
-    if most_sendings(what) < p.sent {
+    if most_again(terms, what) < p.sent - 1 {
         return false;
     }
-    p.age < 20
+    p.age < terms.ticks
 }

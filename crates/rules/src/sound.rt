@@ -1,13 +1,16 @@
-// The test behind refusal 27, as far as it is about the interval and the state.
+// The test behind refusal 27, as far as it is about the site and the state.
 use crate::states::is_up;
 use conduct::Awaited;
 use conduct::State;
 ghost use mathlib.Core.Path.{_≡_};
 ghost use mathlib.Core.Bool.{_||_};
 ghost use lib.Dec.{eqb};
-ghost use Rattle.conduct.specs.Session.{isUp, allowedInterval};
+ghost use Rattle.conduct.specs.Session.{isUp, allowedInterval, allowedResends};
 ghost use Rattle.conduct.specs.Sound.{soundState};
 ghost use Rattle.conduct.specs.declared.State.the-variants as states;
+
+// The most that a site may have.
+pub(crate) const MOST_RESENDS: u32 = 3;
 
 pub fn is_allowed(interval: u32) -> bool
     ensures { λ r. ⌜ r ≡ allowedInterval interval ⌝ }
@@ -16,6 +19,12 @@ pub fn is_allowed(interval: u32) -> bool
         return false;
     }
     interval <= 6000
+}
+
+pub fn is_resends_allowed(resends: u32) -> bool
+    ensures { λ r. ⌜ r ≡ allowedResends resends ⌝ }
+{
+    resends <= MOST_RESENDS
 }
 
 fn is_waiting_sound(left: u32) -> bool

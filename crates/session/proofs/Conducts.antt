@@ -22,7 +22,7 @@ use Rattle.conduct.specs.Step.{Answered, step}
 use Rattle.conduct.specs.Conducts.{isOpenResponse, isRedundantSession, saysRedundant, isRedundantAnswer, withConduct, byConduct}
 use Rattle.conduct.proofs.CountedAs.{counts-as}
 use Rattle.conduct.proofs.Conducts.{only-there}
-use Rattle.conduct.proofs.Intervals.{site-stays}
+use Rattle.conduct.proofs.Sites.{site-stays}
 use Rattle.session.specs.Record.{sessionOf, consistent}
 use Rattle.session.specs.Answers.{toldOf, refuse, told, callOf}
 use Rattle.session.specs.Code.{answerTo, seen, recordAfter, answers}

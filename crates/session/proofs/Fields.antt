@@ -56,7 +56,7 @@ at-refusal = refl
 pub at-next : fieldOf T′.mir 1 ≡ some (S′.mir, 8)
 at-next = refl
 
-pub at-events : fieldOf T′.mir 2 ≡ some (P′.mir, 688)
+pub at-events : fieldOf T′.mir 2 ≡ some (P′.mir, 696)
 at-events = refl
 
 pub at-list : fieldOf P′.mir 0 ≡ some (fortyTy, 0)
@@ -78,7 +78,7 @@ module _ {M : Type 1} {𝓤 : URA M} {H : Heap 𝓤} {A : Atoms 𝓤} {K : Type 
       (λ u. ‵ (fat q T′.mir b o (toldWith (vint w32 (r .refusal)) u (eventsVal (r .events)))))
   in-next t r = sub t 1 at-next (whole t)
 
-  pub in-events : K → (r : Told) → Part K W (‵ (fat q T′.mir b o (toldVal r))) q P′.mir b (o + 688) (eventsVal (r .events))
+  pub in-events : K → (r : Told) → Part K W (‵ (fat q T′.mir b o (toldVal r))) q P′.mir b (o + 696) (eventsVal (r .events))
       (λ u. ‵ (fat q T′.mir b o (toldWith (vint w32 (r .refusal)) (sessionVal (r .next)) u)))
   in-events t r = sub t 2 at-events (whole t)
 

@@ -3,18 +3,16 @@
 use mathlib.Core.Path.{_≡_, refl, ap, _∙_}
 use mathlib.Core.Bool.{Bool, true, false, cond, not}
 use mathlib.Core.List.{List, [], _∷_, _++_, map}
-use mathlib.Core.Logic.{⊎-elim}
 use Prim.Native.Nat.{ℕ, zero, suc, _-_, _≤_}
 use native.Mathlib.Omega.{arith}
 use lib.Dec.{leb, ltb, eqb}
 use lib.ListN.{length, drop, replicate}
 use lib.Seq.{drop-append-seam}
-use borrow.Author.Tests.{le-ltb, lt-ltb, ltb-false, le-leb, lt-leb, leb-true, leb-false}
-use Rattle.laws.proofs.Tests.{and-last}
+use borrow.Author.Tests.{le-ltb, lt-ltb, ltb-false, le-leb, leb-true, leb-false}
 use Rattle.conduct.specs.declared.Call.{Call}
 use Rattle.conduct.specs.declared.Event.{Event}
 use Rattle.conduct.specs.Lists.{those, all}
-use Rattle.conduct.specs.Session.{Session, isStopped, fits, roomFor, allowedInterval, make}
+use Rattle.conduct.specs.Session.{Session, isStopped, fits, roomFor, make}
 use Rattle.conduct.specs.Sound.{sound}
 use Rattle.conduct.specs.Step.{step}
 use Rattle.conduct.specs.History.{Entry, entry, history}
@@ -27,10 +25,10 @@ use Rattle.session.specs.Rows.{noPush, tableOf, isBlank, eventsOf}
 use Rattle.session.specs.Record.{sessionOf, recordOf, consistent}
 use Rattle.session.specs.Answers.{toldOf, refuse, told, written}
 use Rattle.session.specs.Code.{Asked, answerTo, seen, answers, roomy, heeded, AnswersAreHistory, MadeIsConsistent, ReachedIsConsistent}
-use Rattle.session.specs.Code.{MadeAllowed, MadeRefused, ShortListRefused, InconsistentRefused, RefusedReturnsTheOld, ListFits, LentSaysTheSame, LastAlone}
+use Rattle.session.specs.Code.{ShortListRefused, InconsistentRefused, RefusedReturnsTheOld, ListFits, LentSaysTheSame, LastAlone}
 use Rattle.session.specs.declared.Session.{Session as Record}
 use Rattle.session.specs.declared.Told.{Told}
-use Rattle.session.proofs.Rows.{rows-of, list-of, events-count}
+use Rattle.session.proofs.Rows.{list-of, events-count}
 use Rattle.session.proofs.Records.{sound-session, same-record, same-session}
 
 -- ---- the record of a session passes the test where the session does
@@ -159,18 +157,6 @@ answers-are-history d (a ∷ rest) passes = go (roomy a) refl (λ e h. answers-a
         ap (λ (x : Entry). those heeded (x ∷ others)) first
         ∙ (heeded-first (entry s (a .call)) others (ap not (other-refusal (a .places) d (a .call) .0)) ∙ ap (_∷_ (entry s (a .call))) onward)
     go false e ih = rw (lt-ltb (a .places) 40 (leb-false 40 (a .places) e)) (ih d passes)
-
--- ---- making one
-
-pub made-allowed : MadeAllowed
-made-allowed site low high = rw (le-leb 21 (site .interval) low, le-leb (site .interval) 6000 high) (refl, refl)
-
-pub made-refused : MadeRefused
-made-refused site outside =
-    let not-allowed : allowedInterval (site .interval) ≡ false =
-    ⊎-elim (λ l. rw (lt-leb 21 (site .interval) l)) (λ l. and-last (leb 21 (site .interval)) (lt-leb (site .interval) 6000 l)) outside
-    in
-    rw not-allowed (refl, refl, refl, refl, rows-of [], refl)
 
 -- ---- with a lent list, and with another last number
 

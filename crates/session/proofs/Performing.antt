@@ -7,7 +7,7 @@ use native.Mathlib.Omega.{arith}
 use lib.ListN.{length, length-append}
 use Rattle.conduct.specs.Lists.{flat}
 use Rattle.conduct.specs.Numbers.{nextFree, allNumbered, lastAfterAll}
-use Rattle.conduct.specs.Pushes.{keeps, tells}
+use Rattle.conduct.specs.Pushes.{termsOf, keeps, tells}
 use Rattle.conduct.specs.Step.{partingNotes, remarkNotes, opens}
 use Rattle.conduct.specs.declared.Push.{Push}
 use Rattle.conduct.specs.declared.Event.{Event}
@@ -41,10 +41,10 @@ module _ (s : Record) (m : Move) (hs : List ℕ) where
   firstLast = lastAfterAll hs (s .last) (partingNotes (m .parting))
 
   abbrev kept : List Push
-  kept = flat (keeps (m .sweep)) (rowsOf (s .pushes))
+  kept = flat (keeps (termsOf (s .site)) (m .sweep)) (rowsOf (s .pushes))
 
   abbrev told : List Event
-  told = flat (tells (m .sweep)) (rowsOf (s .pushes))
+  told = flat (tells (termsOf (s .site)) (m .sweep)) (rowsOf (s .pushes))
 
   -- the call's session and events, with these for the numbers that are held
   abbrev pub atHeld : Performed
@@ -92,9 +92,9 @@ module _ (s : Record) (m : Move) (hs : List ℕ) where
           × (Listed (made .events) × (made .events .count < 40))
       made-room room =
           let count = rows-few (s .pushes) in
-          let few = kept-few (m .sweep) (rowsOf (s .pushes)) in
+          let few = kept-few (termsOf (s .site)) (m .sweep) (rowsOf (s .pushes)) in
           let long : length (firstEvents ++ told) < 40 =
-          omega (arith, length-append firstEvents told, few-partings hs (s .last) (m .parting), told-few (m .sweep) (rowsOf (s .pushes)))
+          omega (arith, length-append firstEvents told, few-partings hs (s .last) (m .parting), told-few (termsOf (s .site)) (m .sweep) (rowsOf (s .pushes)))
           in (
             (subst⁻¹ Packed table-made (packed-of kept (omega arith)), omega (arith, table-count (made .table) kept table-made)),
             room-for (made .events) (firstEvents ++ told) events-made long,

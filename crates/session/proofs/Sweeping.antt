@@ -11,6 +11,7 @@ use Rattle.conduct.specs.Pushes.{fateOf, keptBy, toldBy, keeps, tells}
 use Rattle.conduct.specs.declared.Push.{Push}
 use Rattle.conduct.specs.declared.Event.{Event}
 use Rattle.conduct.specs.declared.Sweep.{Sweep}
+use Rattle.conduct.specs.declared.Terms.{Terms}
 use Rattle.conduct.specs.declared.Fate.{Fate}
 use Rattle.conduct.specs.declared.Fate.the-variants.{Keep, Again, Close}
 use Rattle.conduct.proofs.Lists.{flat-append}
@@ -56,12 +57,12 @@ row-more rows count i more fits =
     let here : i < length (take count rows) = simp length-take (omega arith) in
     rw (add-one, take-suc (take count rows) i noPush, getD-take)
 
-module _ (sweep : Sweep) (rows : List Push) (count : ℕ) (said : Events) where
+module _ (terms : Terms) (sweep : Sweep) (rows : List Push) (count : ℕ) (said : Events) where
   abbrev kept-of : List Push → List Push
-  kept-of ps = flat (keeps sweep) ps
+  kept-of ps = flat (keeps terms sweep) ps
 
   abbrev told-of : List Push → List Event
-  told-of ps = listOf said ++ flat (tells sweep) ps
+  told-of ps = listOf said ++ flat (tells terms sweep) ps
 
   -- of the first i rows
   pub record SoFar (i : ℕ) (t : Table) (e : Events) : Type 0 where
@@ -83,33 +84,33 @@ module _ (sweep : Sweep) (rows : List Push) (count : ℕ) (said : Events) where
 
   module _ (size : length rows ≡ 32) (fits : count ≤ 32) (listed : Listed said) (few : said .count ≤ 3) where
     told-long : (ps : List Push) → length (told-of ps) ≤ length ps + 3
-    told-long ps = omega (arith, length-append (listOf said) (flat (tells sweep) ps), told-few sweep ps, listed-count said listed)
+    told-long ps = omega (arith, length-append (listOf said) (flat (tells terms sweep) ps), told-few terms sweep ps, listed-count said listed)
 
     -- the fate of row i, as it is found
-    pub so-next : (i : ℕ) (t u : Table) (d e : Events) (fate : Fate) → SoFar i t d → i < count → fate ≡ fateOf sweep (getD rows i noPush)
+    pub so-next : (i : ℕ) (t u : Table) (d e : Events) (fate : Fate) → SoFar i t d → i < count → fate ≡ fateOf terms sweep (getD rows i noPush)
         → (f : Fate) → fate ≡ f → u ≡ tableWith f t → e ≡ eventsWith f d → SoFar (i + 1) u e
     so-next i t u d e fate so more is f found kept told =
-        let same : f ≡ fateOf sweep (getD rows i noPush) = sym found ∙ is in
+        let same : f ≡ fateOf terms sweep (getD rows i noPush) = sym found ∙ is in
         let ps : List Push = take i (take count rows) in
         let p : Push = getD rows i noPush in
         let short : length ps ≤ i = simp length-take (omega arith) in
         let row : ps ++ p ∷ [] ≡ take (i + 1) (take count rows) = row-more rows count i more (omega arith) in
         let table : u ≡ tableOf (kept-of (ps ++ p ∷ [])) =
-        kept ∙ table-with f t (kept-of ps) (so .table) (omega (arith, kept-few sweep ps))
-        ∙ ap tableOf (ap (λ (g : Fate). kept-of ps ++ keptBy g) same ∙ one-more (keeps sweep) ps p)
+        kept ∙ table-with f t (kept-of ps) (so .table) (omega (arith, kept-few terms sweep ps))
+        ∙ ap tableOf (ap (λ (g : Fate). kept-of ps ++ keptBy g) same ∙ one-more (keeps terms sweep) ps p)
         in
         let events : e ≡ eventsOf (told-of (ps ++ p ∷ [])) =
         told ∙ events-with f d (told-of ps) (so .events) (omega (arith, told-long ps))
         ∙ ap eventsOf (ap (λ (g : Fate). told-of ps ++ toldBy g) same
-        ∙ append-assoc (listOf said) (flat (tells sweep) ps) (tells sweep p)
-        ∙ ap (λ (xs : List Event). listOf said ++ xs) (one-more (tells sweep) ps p))
+        ∙ append-assoc (listOf said) (flat (tells terms sweep) ps) (tells terms sweep p)
+        ∙ ap (λ (xs : List Event). listOf said ++ xs) (one-more (tells terms sweep) ps p))
         in
         let long : length (ps ++ p ∷ []) ≤ i + 1 = simp length-append (omega arith) in
         record {
           here = omega arith;
           table = rw row at table;
           events = rw row at events;
-          few-rows = omega (arith, table-count u (kept-of (ps ++ p ∷ [])) table, kept-few sweep (ps ++ p ∷ []));
+          few-rows = omega (arith, table-count u (kept-of (ps ++ p ∷ [])) table, kept-few terms sweep (ps ++ p ∷ []));
           few-places = omega (arith, events-count e (told-of (ps ++ p ∷ [])) events, told-long (ps ++ p ∷ []));
         }
 

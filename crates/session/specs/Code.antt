@@ -1,21 +1,26 @@
--- Promise: the code's answers are the history: what calls of a record answer, call by call, is what its session does. (proofs/Histories)
+-- Promise: the code's answers are the history: what calls of a record answer, call by call, is what its session does. (proofs/Histories, Making, Following)
 -- By their contracts the public calls answer `told`, so what is said here of `told` is said of the code. Assumes nothing.
 use mathlib.Core.Path.{_≡_}
 use mathlib.Core.Bool.{Bool, true, not}
-use mathlib.Core.List.{List, [], _∷_, map}
+use mathlib.Core.List.{List, [], _∷_, _++_, map}
 use mathlib.Core.Logic.{_⊎_}
 use Prim.Native.Nat.{ℕ, _≤_, _<_}
 use lib.Dec.{leb, ltb, eqb}
 use lib.ListN.{length}
 use Rattle.conduct.specs.declared.Call.{Call}
+use Rattle.conduct.specs.declared.Call.the-variants as calls
 use Rattle.conduct.specs.declared.Conduct.the-variants.{New}
 use Rattle.conduct.specs.declared.Event.{Event}
+use Rattle.conduct.specs.declared.Pushed.{Pushed}
 use Rattle.conduct.specs.declared.Site.{Site}
+use Rattle.conduct.specs.declared.State.{State}
 use Rattle.conduct.specs.declared.State.the-variants.{Waiting, Stopped}
 use Rattle.conduct.specs.Lists.{those}
 use Rattle.conduct.specs.History.{Entry, history}
+use Rattle.conduct.specs.Followed.{firstCode, Followed}
+use Rattle.conduct.specs.Reached.{Tested}
 use Rattle.session.specs.Rows.{rowsOf, eventsOf, listOf}
-use Rattle.session.specs.Record.{sessionOf, recordOf, consistent, madeOf, withLast}
+use Rattle.session.specs.Record.{sessionOf, consistent, madeOf, withLast}
 use Rattle.session.specs.Answers.{told, saidOf, written}
 use Rattle.session.specs.declared.Session.{Session as Record}
 use Rattle.session.specs.declared.Told.{Told}
@@ -55,6 +60,14 @@ AnswersAreHistory =
     (d : Record) (asked : List Asked) → consistent d ≡ true
     → those heeded (answers d asked) ≡ history (sessionOf d) (map (λ (a : Asked). a .call) (those roomy asked))
 
+-- ---- so demand 3 holds of the answers, by the resends that stand in the record
+
+abbrev pub AcceptedAreFollowed : Type 0
+AcceptedAreFollowed =
+    (d : Record) (asked : List Asked) (before rest : List Entry) (x : Entry) (what : Pushed) (h : ℕ)
+    → consistent d ≡ true → those heeded (answers d asked) ≡ before ++ x ∷ rest → x .call ≡ calls.Push what h → x .refusal ≡ 0
+    → (n : ℕ) × (x .events ≡ record { code = firstCode what; number = n; detail = h } ∷ []) × Followed (d .site .resends) what n h rest
+
 -- ---- 27 is for no record that was made, nor for one that calls with any lists reached from one that passes
 
 abbrev pub MadeIsConsistent : Type 0
@@ -63,18 +76,33 @@ MadeIsConsistent = (site : Site) → consistent (madeOf site .session) ≡ true
 abbrev pub ReachedIsConsistent : Type 0
 ReachedIsConsistent = (d : Record) (asked : List Asked) → consistent d ≡ true → consistent (recordAfter d asked) ≡ true
 
--- ---- making one: 4 outside 21 to 6000, with a session that is stopped and of the new conduct, and only there
+-- and for every other: what passes has at most 32 pushes open, and its fields are in the paper's figures
+abbrev pub PassingRecordIsTested : Type 0
+PassingRecordIsTested =
+    (d : Record) → consistent d ≡ true
+    → (d .pushes .count ≤ 32) × Tested (record { site = d .site; state = d .state; pushes = rowsOf (d .pushes); last = d .last })
+
+-- ---- making one: 4 outside 21 to 6000, whatever the resends; inside, 18 for more than 3 resends, and only then
+
+-- a record of this site in this state, with nothing open and no number taken
+abbrev pub Begins : Site → State → Record → Type 0
+Begins site state d = (d .site ≡ site) × (d .state ≡ state) × (rowsOf (d .pushes) ≡ []) × (d .last ≡ 0)
 
 abbrev pub MadeAllowed : Type 0
 MadeAllowed =
-    (site : Site) → 21 ≤ site .interval → site .interval ≤ 6000
-    → (madeOf site .refusal ≡ 0) × (madeOf site .session ≡ recordOf (record { site = site; state = Waiting 1; pushes = []; last = 0 }))
+    (site : Site) → 21 ≤ site .interval → site .interval ≤ 6000 → site .resends ≤ 3
+    → (madeOf site .refusal ≡ 0) × Begins site (Waiting 1) (madeOf site .session)
+
+-- what either refusal leaves: it is stopped, of the new conduct and without resends
+abbrev pub NeverBegun : Record → Type 0
+NeverBegun d = Begins (record { interval = 21; conduct = New; resends = 0 }) Stopped d
 
 abbrev pub MadeRefused : Type 0
-MadeRefused =
-    (site : Site) → (site .interval < 21) ⊎ (6000 < site .interval)
-    → (madeOf site .refusal ≡ 4) × (madeOf site .session .site .interval ≡ 21) × (madeOf site .session .site .conduct ≡ New)
-    × (madeOf site .session .state ≡ Stopped) × (rowsOf (madeOf site .session .pushes) ≡ []) × (madeOf site .session .last ≡ 0)
+MadeRefused = (site : Site) → (site .interval < 21) ⊎ (6000 < site .interval) → (madeOf site .refusal ≡ 4) × NeverBegun (madeOf site .session)
+
+abbrev pub MadeRefusedResends : Type 0
+MadeRefusedResends =
+    (site : Site) → 21 ≤ site .interval → site .interval ≤ 6000 → 3 < site .resends → (madeOf site .refusal ≡ 18) × NeverBegun (madeOf site .session)
 
 -- ---- refusals, for any record: 3 just where the list is too short, 27 just where it is not and the record fails the test
 

@@ -45,7 +45,7 @@ RedundantByItsBytes =
 
 -- a record and an answer but for the conduct
 abbrev pub recordIn : Conduct → Record → Record
-recordIn k d = record { site = record { interval = d .site .interval; conduct = k }; state = d .state; pushes = d .pushes; last = d .last }
+recordIn k d = record { site = record { interval = d .site .interval; conduct = k; resends = d .site .resends }; state = d .state; pushes = d .pushes; last = d .last }
 
 abbrev pub toldIn : Conduct → Told → Told
 toldIn k t = record { refusal = t .refusal; next = recordIn k (t .next); events = t .events }

@@ -4,7 +4,7 @@ use Prim.Native.Nat.{ℕ}
 use lib.Dec.{leb}
 use lib.ListN.{drop}
 use Rattle.conduct.specs.Lists.{all}
-use Rattle.conduct.specs.Session.{Session, make}
+use Rattle.conduct.specs.Session.{Session, refusedMaking, make}
 use Rattle.conduct.specs.Sound.{sound}
 use Rattle.conduct.specs.declared.Site.{Site}
 use Rattle.session.specs.Rows.{tableOf, rowsOf, isBlank}
@@ -21,6 +21,10 @@ recordOf s = record { site = s .site; state = s .state; pushes = tableOf (s .pus
 -- the count is at most 32, blanks follow, and the session has what every one has that was made or reached from one
 abbrev pub consistent : Record → Bool
 consistent d = leb (d .pushes .count) 32 && (all isBlank (drop (d .pushes .count) (d .pushes .rows)) && sound (sessionOf d))
+
+-- what making answers
+abbrev pub refusedOf : ℕ → Made
+refusedOf refusal = record { refusal = refusal; session = recordOf (refusedMaking refusal .session) }
 
 abbrev pub madeOf : Site → Made
 madeOf site = record { refusal = make site .refusal; session = recordOf (make site .session) }

@@ -5,6 +5,7 @@ use Rattle.conduct.specs.declared.Push.{Push}
 use Rattle.conduct.specs.declared.Event.{Event}
 use Rattle.conduct.specs.declared.Sweep.{Sweep}
 use Rattle.conduct.specs.declared.Remark.{Remark}
+use Rattle.conduct.specs.declared.Terms.{Terms}
 use Rattle.conduct.specs.Lists.{flat}
 use Rattle.conduct.specs.Numbers.{Note, nextFree, numbered, lastAfter, allNumbered, lastAfterAll}
 use Rattle.conduct.specs.Pushes.{keeps, tells}
@@ -40,8 +41,8 @@ abbrev pub allNoted : List ℕ → ℕ → List Note → Written
 allNoted held last notes = writtenOf (allNumbered held last notes) (lastAfterAll held last notes)
 
 -- what a sweep leaves of the pushes and says of them
-abbrev pub sweptBy : Sweep → List Push → List Event → Swept
-sweptBy sweep ps es = sweptOf (flat (keeps sweep) ps) (es ++ flat (tells sweep) ps)
+abbrev pub sweptBy : Terms → Sweep → List Push → List Event → Swept
+sweptBy terms sweep ps es = sweptOf (flat (keeps terms sweep) ps) (es ++ flat (tells terms sweep) ps)
 
 -- what is said at the end, and the push that is opened
 abbrev pub remarkedBy : List ℕ → List Push → List Event → ℕ → Remark → Remarked

@@ -3,6 +3,7 @@ use crate::Session;
 use crate::holding;
 use crate::tables;
 use rules::numbers;
+use rules::pushes;
 use rules::sound;
 ghost use mathlib.Core.Path.{_≡_};
 ghost use Rattle.session.specs.Record.{consistent};
@@ -23,13 +24,16 @@ pub(crate) fn is_consistent(s: Session) -> bool
     if !sound::is_allowed(s.site.interval) {
         return false;
     }
+    if !sound::is_resends_allowed(s.site.resends) {
+        return false;
+    }
     if !sound::is_state_sound(s.site.interval, state) {
         return false;
     }
     if !sound::is_count_sound(state, count) {
         return false;
     }
-    if !table.all_sound() {
+    if !table.all_sound(pushes::terms_of(s.site)) {
         return false;
     }
     let holding = holding::held(s);

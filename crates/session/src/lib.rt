@@ -24,7 +24,7 @@ ghost use lib.ListN.{length};
 ghost use Rattle.conduct.specs.declared.Call.the-variants as variants;
 ghost use Rattle.conduct.specs.declared.Pushed.the-variants as pushed;
 ghost use Rattle.conduct.specs.Session.{usual as Session·usual};
-ghost use Rattle.session.specs.Record.{madeOf, withLast};
+ghost use Rattle.session.specs.Record.{refusedOf, madeOf, withLast};
 ghost use Rattle.session.specs.Answers.{told as Answers·told, SaysAndWrites, callOfBytes};
 
 // The open pushes, in order of acceptance: the first `count` rows. The other rows are blank.
@@ -61,19 +61,20 @@ pub struct Said {
     pub count: usize,
 }
 
-// What making a session answers: refusal 4 or 0, and the session.
+// What making a session answers: refusal 4, 18 or 0, and the session.
 pub struct Made {
     pub refusal: u32,
     pub session: Session,
 }
 
-// The site of which only the interval is said: its conduct is the new one.
+// The site of which only the interval is said: its conduct is the new one, and a Response is sent again once.
 pub fn usual(interval: u32) -> Site
     ensures { λ r. ⌜ r ≡ Session·usual interval ⌝ }
 {
     Site {
         interval,
         conduct: Conduct::New,
+        resends: 1,
     }
 }
 
@@ -82,7 +83,10 @@ pub fn make(site: Site) -> Made
     ensures { λ r. ⌜ r ≡ madeOf site ⌝ }
 {
     if !sound::is_allowed(site.interval) {
-        return refused_making();
+        return refused_making(4);
+    }
+    if !sound::is_resends_allowed(site.resends) {
+        return refused_making(18);
     }
     Made {
         refusal: 0,
@@ -95,13 +99,17 @@ pub fn make(site: Site) -> Made
     }
 }
 
-fn refused_making() -> Made
-    ensures { λ r. ⌜ r ≡ madeOf (Session·usual 0) ⌝ }
+fn refused_making(refusal: u32) -> Made
+    ensures { λ r. ⌜ r ≡ refusedOf refusal ⌝ }
 {
     Made {
-        refusal: 4,
+        refusal,
         session: Session {
-            site: usual(21),
+            site: Site {
+                interval: 21,
+                conduct: Conduct::New,
+                resends: 0,
+            },
             state: State::Stopped,
             pushes: tables::empty(),
             last: 0,

@@ -2,6 +2,7 @@
 use crate::Table;
 use conduct::Push;
 use conduct::Pushed;
+use conduct::Terms;
 use rules::pushes;
 ghost use mathlib.Core.Path.{_≡_};
 ghost use mathlib.Core.List.{_++_, _∷_, []};
@@ -78,15 +79,15 @@ impl Table {
         true
     }
 
-    pub(crate) fn all_sound(self) -> bool
+    pub(crate) fn all_sound(self, terms: Terms) -> bool
         requires { ⌜ self .count ≤ 32 ⌝ }
-        ensures { λ r. ⌜ r ≡ all soundPush (rowsOf self) ⌝ }
+        ensures { λ r. ⌜ r ≡ all (soundPush terms) (rowsOf self) ⌝ }
     {
         let rows = self.rows;
         let count = self.count;
         let mut i = 0;
         while i < count {
-            if !pushes::is_sound(rows[i]) {
+            if !pushes::is_sound(terms, rows[i]) {
                 return false;
             }
             i += 1;

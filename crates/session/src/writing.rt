@@ -11,6 +11,7 @@ use conduct::Push;
 use conduct::Pushed;
 use conduct::Remark;
 use conduct::Sweep;
+use conduct::Terms;
 use conduct::codes;
 use rules::numbers;
 use rules::pushes;
@@ -138,10 +139,10 @@ fn parted(held: &[u32], last: u32, parting: Parting) -> Written
 
 // What a sweep leaves of the open pushes, in order of acceptance, and what it says of them behind the events so far. A push is written where it goes, since
 // handing the tables on by value, push for push, took longer than all else in a tick.
-fn sweep_all(before: Table, sweep: Sweep, said: Events) -> Swept
+fn sweep_all(terms: Terms, before: Table, sweep: Sweep, said: Events) -> Swept
     requires { ⌜ before .count ≤ 32 ⌝ }
     requires { ⌜ (Listed said) × (said .count ≤ 3) ⌝ }
-    ensures { λ r. ⌜ r ≡ sweptBy sweep (rowsOf before) (listOf said) ⌝ }
+    ensures { λ r. ⌜ r ≡ sweptBy terms sweep (rowsOf before) (listOf said) ⌝ }
 {
     let rows = before.rows;
     let count = before.count;
@@ -150,7 +151,7 @@ fn sweep_all(before: Table, sweep: Sweep, said: Events) -> Swept
     let mut i = 0;
     while i < count {
         let p = rows[i];
-        let fate = pushes::fate_of(sweep, p);
+        let fate = pushes::fate_of(terms, sweep, p);
         let at = table.count;
         let place = events.count;
         match fate {
@@ -229,7 +230,7 @@ pub(crate) fn perform(s: Session, held: &[u32], m: Move) -> Performed
     let before = s.pushes;
     let first = parted(held, s.last, parting);
     let said = first.events;
-    let made = sweep_all(before, sweep, said);
+    let made = sweep_all(pushes::terms_of(site), before, sweep, said);
     let all = remark_all(held, made, first.last, remark);
     let table = all.table;
     let written = all.written;

@@ -15,14 +15,42 @@ refused-making-requires c κs = search needs
 returns : tie.Need-returns
 returns c = rw (sym (c .before .before .is-allowed .ensures) ∙ not-true _ (c .before .if1 .taken)) (c .refused-making .ensures)
 
-empty-requires : tie.Need-empty-requires
-empty-requires c κs = search needs
+is-resends-allowed-requires : tie.Need-is-resends-allowed-requires
+is-resends-allowed-requires c κs = search needs
+
+refused-making-requires-2 : tie.Need-refused-making-requires-2
+refused-making-requires-2 c κs = search needs
 
 returns-2 : tie.Need-returns-2
 returns-2 c =
-    let site = c .before .before .before .args .site in
-    rw (sym (c .before .before .is-allowed .ensures) ∙ not-false _ (c .before .if1 .left))
+    let first = c .before .before .before in
+    rw (
+      sym (first .before .is-allowed .ensures) ∙ not-false _ (first .if1 .left),
+      sym (c .before .before .is-resends-allowed .ensures) ∙ not-true _ (c .before .if2 .taken),
+    ) (c .refused-making2 .ensures)
+
+empty-requires : tie.Need-empty-requires
+empty-requires c κs = search needs
+
+returns-3 : tie.Need-returns-3
+returns-3 c =
+    let first = c .before .before .before in
+    let site = first .before .before .args .site in
+    rw (
+      sym (first .before .is-allowed .ensures) ∙ not-false _ (first .if1 .left),
+      sym (c .before .before .is-resends-allowed .ensures) ∙ not-false _ (c .before .if2 .left),
+    )
     (λ i. record { refusal = 0; session = record { site = site; state = Waiting 1; pushes = c .empty .ensures i; last = 0 } })
 
 pub make-spec : {M : Type 1} → statement M
-make-spec = tie.close (tie.spec is-allowed-requires refused-making-requires returns empty-requires returns-2)
+make-spec =
+    tie.close
+    (tie.spec
+    is-allowed-requires
+    refused-making-requires
+    returns
+    is-resends-allowed-requires
+    refused-making-requires-2
+    returns-2
+    empty-requires
+    returns-3)

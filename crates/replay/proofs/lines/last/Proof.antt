@@ -15,8 +15,8 @@ enum-told-2 c = search needs
 end-requires : tie.Need-end-requires
 end-requires c κs = search needs
 
-enum-told-3 : tie.Need-enum-told-3
-enum-told-3 c = search needs
+enum-known-phase : tie.Need-enum-known-phase
+enum-known-phase c = search needs
 
 stop-requires : tie.Need-stop-requires
 stop-requires c κs = search needs
@@ -41,7 +41,7 @@ returns-3 : tie.Need-returns-3
 unfolding lastLine
 returns-3 c =
     let said = c .before .before .stop .ensures in
-    (said .0, rw (c .before .before .before .before .enum-told3 .given .1) (said .1))
+    (said .0, rw (c .before .before .before .before .before .phase .given .1) (said .1))
 
 pub last-spec : {M : Type 1} → statement M
 last-spec =
@@ -50,7 +50,7 @@ last-spec =
     enum-told
     enum-told-2
     end-requires
-    enum-told-3
+    enum-known-phase
     stop-requires
     returns
     same-length

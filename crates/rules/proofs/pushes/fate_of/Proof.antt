@@ -2,7 +2,7 @@
 use borrow.Author.Needs.{needs}
 use Rattle.rules.proofs.pushes.fate_of.Statement.{statement}
 use Rattle.rules.proofs.pushes.fate_of.Tie as tie
-use borrow.Author.Tests.{eq-eqb, ne-eqb, lt-ltb, le-ltb}
+use borrow.Author.Tests.{eq-eqb, ne-eqb}
 
 enum-told : tie.Need-enum-told
 enum-told c = search needs
@@ -10,11 +10,8 @@ enum-told c = search needs
 enum-told-2 : tie.Need-enum-told-2
 enum-told-2 c = search needs
 
-older-requires : tie.Need-older-requires
-older-requires c κs = search needs
-
-again-or-requires : tie.Need-again-or-requires
-again-or-requires c κs = search needs
+ticked-requires : tie.Need-ticked-requires
+ticked-requires c κs = search needs
 
 enum-told-3 : tie.Need-enum-told-3
 enum-told-3 c = search needs
@@ -31,8 +28,8 @@ event-of-requires-2 c κs = search needs
 enum-known-sweep-2 : tie.Need-enum-known-sweep-2
 enum-known-sweep-2 c = search needs
 
-again-or-requires-2 : tie.Need-again-or-requires-2
-again-or-requires-2 c κs = search needs
+again-or-requires : tie.Need-again-or-requires
+again-or-requires c κs = search needs
 
 enum-known-sweep-3 : tie.Need-enum-known-sweep-3
 enum-known-sweep-3 c = search needs
@@ -44,31 +41,28 @@ returns : tie.Need-returns
 returns c = simp (c .enum-told .given .1)
 
 returns-2 : tie.Need-returns-2
-returns-2 c = simp (c .before .before .before .enum-told2 .given .1, c .older .ensures, lt-ltb _ _ (c .before .if1 .taken))
+returns-2 c = simp (c .before .enum-told2 .given .1, c .ticked .ensures)
 
 returns-3 : tie.Need-returns-3
-returns-3 c = simp (c .before .before .before .enum-told2 .given .1, c .again-or .ensures, le-ltb _ _ (c .before .if1 .left))
+returns-3 c = simp (c .before .enum-told3 .given .1, c .event-of .ensures)
 
 returns-4 : tie.Need-returns-4
-returns-4 c = simp (c .before .enum-told3 .given .1, c .event-of .ensures)
+returns-4 c = simp (c .before .before .before .before .sweep .given .1, c .event-of2 .ensures, eq-eqb _ _ (c .before .if1 .taken))
 
 returns-5 : tie.Need-returns-5
-returns-5 c = simp (c .before .before .before .before .sweep .given .1, c .event-of2 .ensures, eq-eqb _ _ (c .before .if2 .taken))
+returns-5 c = simp (c .before .before .before .sweep .given .1, ne-eqb _ _ (c .if1 .left))
 
 returns-6 : tie.Need-returns-6
-returns-6 c = simp (c .before .before .before .sweep .given .1, ne-eqb _ _ (c .if2 .left))
+returns-6 c = simp (c .before .before .before .before .sweep2 .given .1, c .again-or .ensures, eq-eqb _ _ (c .before .if2 .taken))
 
 returns-7 : tie.Need-returns-7
-returns-7 c = simp (c .before .before .before .before .sweep2 .given .1, c .again-or2 .ensures, eq-eqb _ _ (c .before .if3 .taken))
+returns-7 c = simp (c .before .before .before .sweep2 .given .1, ne-eqb _ _ (c .if2 .left))
 
 returns-8 : tie.Need-returns-8
-returns-8 c = simp (c .before .before .before .sweep2 .given .1, ne-eqb _ _ (c .if3 .left))
+returns-8 c = simp (c .before .before .before .before .sweep3 .given .1, c .event-of3 .ensures, eq-eqb _ _ (c .before .if3 .taken))
 
 returns-9 : tie.Need-returns-9
-returns-9 c = simp (c .before .before .before .before .sweep3 .given .1, c .event-of3 .ensures, eq-eqb _ _ (c .before .if4 .taken))
-
-returns-10 : tie.Need-returns-10
-returns-10 c = simp (c .before .before .before .sweep3 .given .1, ne-eqb _ _ (c .if4 .left))
+returns-9 c = simp (c .before .before .before .sweep3 .given .1, ne-eqb _ _ (c .if3 .left))
 
 pub fate-of-spec : {M : Type 1} → statement M
 fate-of-spec =
@@ -76,14 +70,13 @@ fate-of-spec =
     (tie.spec
     enum-told
     enum-told-2
-    older-requires
-    again-or-requires
+    ticked-requires
     enum-told-3
     event-of-requires
     enum-known-sweep
     event-of-requires-2
     enum-known-sweep-2
-    again-or-requires-2
+    again-or-requires
     enum-known-sweep-3
     event-of-requires-3
     returns
@@ -94,5 +87,4 @@ fate-of-spec =
     returns-6
     returns-7
     returns-8
-    returns-9
-    returns-10)
+    returns-9)

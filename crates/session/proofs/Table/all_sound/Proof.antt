@@ -14,10 +14,10 @@ use Rattle.session.proofs.Rows.{unmapped, rows-count}
 use Rattle.conduct.proofs.Loops.{all-not, all-later, all-end}
 
 abbrev Inv-loop : tie.InvT-loop
-Inv-loop rows count i₀ i = all soundPush (take count rows) ≡ all soundPush (drop i (take count rows))
+Inv-loop terms rows count i₀ i = all (soundPush terms) (take count rows) ≡ all (soundPush terms) (drop i (take count rows))
 
 abbrev μ-loop : tie.MeasureT-loop
-μ-loop rows count i₀ i = count - i
+μ-loop terms rows count i₀ i = count - i
 
 loop-holds : tie.Need-loop-holds Inv-loop μ-loop
 loop-holds c = refl
@@ -35,11 +35,12 @@ returns : tie.Need-returns Inv-loop μ-loop
 unfolding rowsOf
 returns c =
     let l = c .before .before .before .before .loop in
-    let t = c .before .before .before .before .before .before .args .self in
+    let a = c .before .before .before .before .before .before .args in
+    let t = a .self in
     let size = rows-count t (search unmapped) (c .before .before .before .before .before .before .pre) in
     let here = getD-take (t .count) (t .rows) (l .i) noPush (c .before .before .before .loop-test .taken) in
-    let other = ap soundPush here ∙ sym (c .before .is-sound .ensures) ∙ not-true _ (c .if1 .taken) in
-    sym (l .inv ∙ all-not soundPush (rowsOf t) (l .i) noPush (omega arith) other)
+    let other = ap (soundPush (a .terms)) here ∙ sym (c .before .is-sound .ensures) ∙ not-true _ (c .if1 .taken) in
+    sym (l .inv ∙ all-not (soundPush (a .terms)) (rowsOf t) (l .i) noPush (omega arith) other)
 
 add-i : tie.Need-add-i Inv-loop μ-loop
 add-i c = omega arith
@@ -51,19 +52,21 @@ loop-again : tie.Need-loop-again Inv-loop μ-loop
 unfolding rowsOf
 loop-again c =
     let l = c .before .before .before .before .loop in
-    let t = c .before .before .before .before .before .before .args .self in
+    let a = c .before .before .before .before .before .before .args in
+    let t = a .self in
     let size = rows-count t (search unmapped) (c .before .before .before .before .before .before .pre) in
     let here = getD-take (t .count) (t .rows) (l .i) noPush (c .before .before .before .loop-test .taken) in
-    let passes = ap soundPush here ∙ sym (c .before .is-sound .ensures) ∙ not-false _ (c .if1 .left) in
-    l .inv ∙ all-later soundPush (rowsOf t) (l .i) noPush (omega arith) passes
+    let passes = ap (soundPush (a .terms)) here ∙ sym (c .before .is-sound .ensures) ∙ not-false _ (c .if1 .left) in
+    l .inv ∙ all-later (soundPush (a .terms)) (rowsOf t) (l .i) noPush (omega arith) passes
 
 returns-2 : tie.Need-returns-2 Inv-loop μ-loop
 unfolding rowsOf
 returns-2 c =
     let l = c .before .loop in
-    let t = c .before .before .before .args .self in
+    let a = c .before .before .before .args in
+    let t = a .self in
     let size = rows-count t (search unmapped) (c .before .before .before .pre) in
-    sym (l .inv ∙ all-end soundPush (rowsOf t) (l .i) (omega arith))
+    sym (l .inv ∙ all-end (soundPush (a .terms)) (rowsOf t) (l .i) (omega arith))
 
 pub all-sound-spec : {M : Type 1} → statement M
 all-sound-spec =

@@ -1,5 +1,6 @@
 -- `session::calls::told` meets its contract: the refusals in their order, then what the session answers. Assumes nothing.
 use mathlib.Core.Path.{_≡_, sym, _∙_}
+use lib.ListN.{length}
 use mathlib.Core.Bool.{true}
 use borrow.Author.Tests.{lt-ltb, le-ltb, not-true, not-false}
 use Rattle.message.proofs.Laws.{cond-true, cond-false}
@@ -23,6 +24,10 @@ returns c = c .refused .ensures ∙ cond-true _ (lt-ltb _ _ (c .before .if1 .tak
 is-consistent-requires : tie.Need-is-consistent-requires
 is-consistent-requires c κs = search needs
 
+-- searched where little stands around it: a search looks into 128 records at most
+size : (s : tie.Start) → length (s .args .s .pushes .rows) ≡ 32
+size s = search unmapped
+
 refused-requires-2 : tie.Need-refused-requires-2
 refused-requires-2 c κs = search needs
 
@@ -44,7 +49,7 @@ returns-3 c =
     let e = passes (c .before .before .before) in
     let found = c .before .before .refusal-of .ensures in
     c .refused3 .ensures
-    ∙ when-refused (a .s) (a .call) _ (search unmapped) e found (c .before .if3 .taken)
+    ∙ when-refused (a .s) (a .call) _ (size (c .before .before .before .before .before .before)) e found (c .before .if3 .taken)
     ∙ cond-true _ e
     ∙ cond-false _ (le-ltb _ _ (c .before .before .before .before .before .if1 .left))
 

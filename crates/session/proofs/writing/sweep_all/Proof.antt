@@ -13,16 +13,16 @@ use Rattle.session.proofs.writing.sweep_all.Statement.{statement}
 use Rattle.session.proofs.writing.sweep_all.Tie as tie
 
 abbrev Inv-loop : tie.InvT-loop
-Inv-loop sweep rows count table₀ events₀ i₀ table events i = SoFar sweep rows count events₀ i table events
+Inv-loop terms sweep rows count table₀ events₀ i₀ table events i = SoFar terms sweep rows count events₀ i table events
 
 abbrev μ-loop : tie.MeasureT-loop
-μ-loop sweep rows count table₀ events₀ i₀ table events i = count - i
+μ-loop terms sweep rows count table₀ events₀ i₀ table events i = count - i
 
 empty-requires : tie.Need-empty-requires Inv-loop μ-loop
 empty-requires c κs = tt
 
 loop-holds : tie.Need-loop-holds Inv-loop μ-loop
-loop-holds c = so-first _ _ _ _ _ (c .empty .ensures) (c .before .before .pre .1 .0) (c .before .before .pre .1 .1)
+loop-holds c = so-first _ _ _ _ _ _ (c .empty .ensures) (c .before .before .pre .1 .0) (c .before .before .pre .1 .1)
 
 mul-p : tie.Need-mul-p Inv-loop μ-loop
 mul-p c = omega arith
@@ -90,7 +90,7 @@ loop-again c =
     let l = c .before .before .before .before .loop in
     let size : length (s .args .before .rows) ≡ 32 = search unmapped in
     let next =
-    so-next _ _ _ _ size (s .pre .0) (s .pre .1 .0) (s .pre .1 .1) _ _ (c .match .table) _ (c .match .events) _ (l .inv)
+    so-next _ _ _ _ _ size (s .pre .0) (s .pre .1 .0) (s .pre .1 .1) _ _ (c .match .table) _ (c .match .events) _ (l .inv)
     (c .before .before .before .loop-test .taken) (c .before .fate-of .ensures)
     in
     ⊎-elim (λ w. next _ (w .1 .given .1) (w .3) (w .4))
@@ -98,7 +98,7 @@ loop-again c =
 
 returns : tie.Need-returns Inv-loop μ-loop
 unfolding rowsOf
-returns c = so-all _ _ _ _ _ _ _ (c .before .loop .inv) (c .loop-test .left)
+returns c = so-all _ _ _ _ _ _ _ _ (c .before .loop .inv) (c .loop-test .left)
 
 pub sweep-all-spec : {M : Type 1} → statement M
 sweep-all-spec =
