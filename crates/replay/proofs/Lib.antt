@@ -12,5 +12,6 @@ mod Ready
 mod Settle
 pub mod Refused
 pub mod Settings
+pub mod Alone
 pub mod Behind
 pub mod AtWork

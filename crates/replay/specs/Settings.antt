@@ -1,5 +1,5 @@
 -- Promise of the program replay: its settings (INTERFACES, "replay"; document 02, M-105 and M-110): which lines say a conduct or a figure,
--- what the session is made with, that it keeps it, and what a refused making prints. (proofs/ConductWords, FigureWords, Settings, Refused,
+-- what the session is made with, that it keeps it, and what a refused making prints. (proofs/ConductWords, FigureWords, Settings, Alone, Refused,
 -- Behind, AtWork)
 -- Assumes nothing.
 use mathlib.Core.Path.{_≡_}
@@ -207,6 +207,15 @@ pub record Makes (items : List StreamItem) : Type 0 where
 
 abbrev pub SettingsMake : Type 0
 SettingsMake = (items : List StreamItem) → all (λ (x : StreamItem). isSettingOrEmpty (lineIn x)) items ≡ true → Makes items
+
+-- A script of settings and empty lines alone: its end makes the session, and prints how that went and nothing else.
+pub record Ends (items : List StreamItem) : Type 0 where
+  pub made-waits : madeOf (siteSaid items) .refusal ≡ 0 → replayed items [] ≡ codes "end waiting 0" ++ (10 ∷ [])
+  pub refused-by-4 : madeOf (siteSaid items) .refusal ≡ 4 → replayed items [] ≡ codes "stop 4" ++ (10 ∷ [])
+  pub refused-by-18 : madeOf (siteSaid items) .refusal ≡ 18 → replayed items [] ≡ codes "stop 18" ++ (10 ∷ [])
+
+abbrev pub SettingsAlone : Type 0
+SettingsAlone = (items : List StreamItem) → all (λ (x : StreamItem). isSettingOrEmpty (lineIn x)) items ≡ true → Ends items
 
 -- whole scripts: the lines, and what is printed
 abbrev pub printedFor : List (List ℕ) → List ℕ
