@@ -40,10 +40,11 @@ FATE_ROW = re.compile(r"^\| (%s) \| (\d+) \| ([\d, ]+) \|" % "|".join(FATES), re
 HANDED_OVER = re.compile(r"handed (\d+) things over to the box: (\d+) records,[^.]* and (\d+) notices,[^.]*\(([\d, ]+)\)")
 TIME = re.compile(r"\d\d:\d\d:\d\d\.\d")
 SEARCH = re.compile(r"^    \$ (.*) \| grep '([^']+)'\n((?:    .*\n)+)", re.MULTILINE)
-# What is searched on the page, and where what it prints stands; check_samples.sh holds the programs to those of the satellite.
+# What is searched on the page, and where what it prints stands; check_samples.sh holds the programs to those of no evening.
 SEARCHED = {
     "./box items < samples/evening.input": "evening.items", "./box replay < samples/evening.txt": "evening.out",
     "./box replay < samples/satellite.txt": "satellite.1.out", "{ echo resends 3; cat samples/satellite.txt; } | ./box replay": "satellite.3.out",
+    "./box replay < samples/together.txt": "together.out",
 }
 QUOTED = re.compile(r"`([^`]+)`")
 

@@ -84,6 +84,8 @@ for resends in 1 3; do
     check "satellite, resends $resends" prints "$top/samples/satellite.$resends.out" replay <"$scratch/satellite.txt"
 done
 check 'satellite, no resends said' prints "$top/samples/satellite.1.out" replay <"$top/samples/satellite.txt"
+check 'together.out by the independent program' model_prints "$top/samples/together.out" <"$top/samples/together.txt"
+check 'together' prints "$top/samples/together.out" replay <"$top/samples/together.txt"
 check 'an unknown command' lists_commands mend
 check 'no command' lists_commands
 check 'a word too many' lists_commands line '##'

@@ -6,10 +6,11 @@
 PROGRAM and the words after it are the command that runs it, say `tools/x86 run target/bin/replay`. Runs the model's own
 tests, the scripts that were written by hand with the output due, from a file and bit by bit through a pipe, reads and
 writes that fail, the fixed vectors of tests/vectors/session.txt, which are also made again, those captured before a
-request, under the settings that keep their meaning (tests/independent/session_captured.py), and N random scripts. A
-difference is printed with what repeats it; `python3 tests/independent/session_cases.py S I` prints the script of a
-random one. The random part counts what it met and fails if something never came. The last line is `N passed, M failed`;
-the exit status is 0 only if nothing failed.
+request, under the settings that keep their meaning (tests/independent/session_captured.py), N random scripts, and one
+for each ten of these in which two messages come at once, in both orders. A difference is printed with what repeats it;
+`python3 tests/independent/session_cases.py S I` prints the script of a random one, `swapped_printed.py` beside it those
+with the two messages. The random parts count what they met and fail if something never came. The last line is
+`N passed, M failed`; the exit status is 0 only if nothing failed.
 """
 
 import collections
@@ -32,8 +33,11 @@ from session_cases import script_numbered  # noqa: E402
 from session_self_tests import all_self_tests  # noqa: E402
 from session_sightings import TO_SEE, WatchedReplay  # noqa: E402
 from session_vector_text import output_to_text, vector_from_text  # noqa: E402
+from swapped_printed import TO_SEE_PRINTED, check_printed, sightings_in_lines, swapped_scripts  # noqa: E402
+from swapped_sessions import check_all_seen  # noqa: E402
 
 LEAST_CALLS = 100000
+SCRIPTS_A_SWAP = 10  # so many random scripts to one in both orders
 
 COMPARISON = ProgramComparison(
     description="Holds the program replay against the independent model of the session.", thing="script", cases=540,
@@ -101,11 +105,6 @@ class Met:
         self.seen += watched.seen
         return script, output
 
-    def check_all_seen(self):
-        missing = [thing for thing in TO_SEE if not self.seen[thing]]
-        if missing:
-            raise Difference("never met: " + ", ".join(missing))
-
     def check_calls(self):
         if self.calls < LEAST_CALLS:
             raise Difference("only %d calls" % self.calls)
@@ -113,8 +112,35 @@ class Met:
     def report(self, tally):
         print("met: " + ", ".join("%s %d times" % (thing, self.seen[thing]) for thing in TO_SEE), flush=True)
         print("%d calls" % self.calls, flush=True)
-        tally.run("everything met in the random scripts", self.check_all_seen)
+        tally.run("everything met in the random scripts", lambda: check_all_seen(self.seen, TO_SEE))
         tally.run("at least %d calls in the random scripts" % LEAST_CALLS, self.check_calls)
+
+
+def run_swapped_scripts(command, scripts, due):
+    """By the lines alone, and then by the model."""
+    runs = [output_of_file(command, script) for script in scripts.all]
+    check_printed(scripts, [printed for printed, _ in runs])
+    for run, script, expected in zip(runs, scripts.all, due):
+        COMPARISON.check(run, script, expected)
+
+
+def run_swapped(tally, command, seed, numbers):
+    """Two messages at once, in both orders. Gives what was met."""
+    tally.begin("two messages at once, in both orders")
+    seen = collections.Counter()
+    for number in numbers:
+        scripts = swapped_scripts(seed, number)
+        due = [replay(script) for script in scripts.all]
+        tally.run("two messages at once (--seed %d --case %d)" % (seed, number),
+                  lambda: run_swapped_scripts(command, scripts, due))
+        seen.update(sightings_in_lines(scripts, due[0]))
+    tally.end()
+    return seen
+
+
+def report_swapped(tally, seen):
+    print("met in both orders: " + ", ".join("%s %d times" % (thing, seen[thing]) for thing in TO_SEE_PRINTED))
+    tally.run("everything met in both orders", lambda: check_all_seen(seen, TO_SEE_PRINTED))
 
 
 def run_all(arguments, tally):
@@ -127,9 +153,12 @@ def run_all(arguments, tally):
         run_vectors(tally, command, lines)
         for captured in CAPTURED:
             run_captured(tally, command, captured)
-    COMPARISON.run_random(tally, command, arguments.seed, random_numbers(arguments), met.script_and_output)
+    numbers = random_numbers(arguments)
+    COMPARISON.run_random(tally, command, arguments.seed, numbers, met.script_and_output)
+    seen = run_swapped(tally, command, arguments.seed, numbers[:len(numbers) // SCRIPTS_A_SWAP or 1])
     if arguments.case is None:
         met.report(tally)
+        report_swapped(tally, seen)
 
 
 if __name__ == "__main__":

@@ -23,6 +23,8 @@ from scripts_by_hand import SCRIPTS_BY_HAND
 from session_captured import CAPTURED, captured_tests
 from session_mistakes import MISTAKES
 from session_self_tests import direct_tests
+from swapped_printed import TO_SEE_PRINTED, printed_tests
+from swapped_sessions import TO_SEE_IN_PAIRS, swapped_tests
 
 PAPERS = (("Document 01", DOCUMENT_01), ("Document 02", DOCUMENT_02), ("Rulings", RULINGS), ("Interfaces", INTERFACES),
           ("Source document 000", DOCUMENT_000), ("Source document 004", DOCUMENT_004))
@@ -52,10 +54,17 @@ PLACES = {
               "[resends_examples.py](../tests/independent/resends_examples.py), "
               "[replay_examples.py](../tests/independent/replay_examples.py), "
               "[resends_setting_examples.py](../tests/independent/resends_setting_examples.py), "
+              "[swapped_examples.py](../tests/independent/swapped_examples.py), "
               "[paper_runs.py](../tests/independent/paper_runs.py)): model and `replay` "
               "([compare_replay.py](../tests/compare_replay.py))",
+    "both orders": "a mix of two messages in random scripts, run in both orders and judged by the lines alone too "
+                   "([swapped_printed.py](../tests/independent/swapped_printed.py)): model and `replay` "
+                   "([compare_replay.py](../tests/compare_replay.py))",
+    "pairs": "a mix of two messages in random sessions of the model, in both orders, and what else comes up there "
+             "([swapped_sessions.py](../tests/independent/swapped_sessions.py))",
     "model": "a test of the model alone ([session_self_tests.py](../tests/independent/session_self_tests.py), "
-             "[session_captured.py](../tests/independent/session_captured.py)), because no script brings it about",
+             "[session_captured.py](../tests/independent/session_captured.py), "
+             "[swapped_sessions.py](../tests/independent/swapped_sessions.py)), because no script brings it about",
 }
 
 
@@ -73,7 +82,8 @@ def tests_there():
         "captured": set().union(*(names_of_vectors(captured.file) for captured in CAPTURED)),
         "items": {name for name, _, _ in BY_HAND + PAPER_LISTINGS},
         "replay": {name for name, _, _ in SCRIPTS_BY_HAND + PAPER_SCRIPTS},
-        "model": {name for name, _ in (*direct_tests(), *captured_tests())}
+        "both orders": set(TO_SEE_PRINTED), "pairs": set(TO_SEE_IN_PAIRS),
+        "model": {name for name, _ in (*direct_tests(), *captured_tests(), *swapped_tests(), *printed_tests())}
         | {"by hand: " + mistake.__name__ for mistake in MISTAKES},
     }
 

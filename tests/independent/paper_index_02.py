@@ -99,4 +99,44 @@ M_110_RULINGS = ("M-110, rulings", (
      "model:session-before-M-110.txt: what answers otherwise", "captured:opening-opened-redundant"),
 ))
 
-DOCUMENT_02 = (M_105, M_105_RULINGS, M_110, M_110_RULINGS)
+M_113 = ("M-113. Two acknowledgements at once, and rulings", (
+    ("two messages, each an Ok or an Advisory of any type, that name different pushes of either kind: each tells the "
+     "same in either order",
+     "replay:at once: * for Response 3, * for Response 5, resends *",
+     "replay:at once: * for Response 5, * for Response 3, resends *",
+     "replay:at once: * for Response 3, * for Advisory push 4, resends *",
+     "replay:at once: * for Advisory push 4, * for Response 3, resends *",
+     "replay:at once: * for Advisory push 4, * for Advisory push 6, resends *", "replay:at two ages: *",
+     "replay:in the last tick: *", "replay:at once: Advisory of unknown type for *",
+     "replay:at once: Advisory of empty type for *", "both orders:* for Response, * for Response",
+     "both orders:* for Response, * for Advisory push", "both orders:* for Advisory push, * for Advisory push",
+     "pairs:* for Response, * for Response, resends *", "pairs:* for Response, * for Advisory push, resends *",
+     "pairs:* for Advisory push, * for Advisory push, resends *", "pairs:Advisory of no type for *",
+     "model:two messages show AnsweredOnlyInOrder", "model:two messages show ObjectionClosesLowerNumbersToo"),
+    ("the sessions that they leave answer every later list of calls alike: events, refusals, states",
+     "replay:numbers freed: *", "replay:in a full table: *", "replay:about the wrap: *", "model:all pairs of session *",
+     "pairs:silence: *", "pairs:messages: *", "pairs:pushes: *", "pairs:stop: *", "pairs:new link: *",
+     "both orders:told by other calls: *", "model:two messages show ClosingMovesTheLastIntoTheGap",
+     "model:two messages show ResendGoesLast", "model:two messages show OkMakesTheOthersOlder",
+     "model:two messages show OkTakesANumber", "model:lines show ClosingTheLastNumberGivesItBack"),
+    ("their records are equal", "model:the record after all pairs of session *"),
+    ("two that name one push, and the first closes it: the second is 15 and changes nothing",
+     "replay:two for one Response, *", "replay:two for one Advisory push, resends *",
+     "both orders:* for one Response with 0 resends left", "both orders:* for one Advisory push",
+     "pairs:* for one Response with 0 resends left, resends *", "pairs:* for one Advisory push, resends *",
+     "model:two messages show SecondForAPushIsOutOfPlace", "model:two messages show SecondForAPushTakesANumber"),
+    ("the first is an UnreadableMessage that sends again: the second is judged as any message is",
+     "replay:two for one Response, 0 of * resends used by UnreadableMessage",
+     "replay:two for one Response, * of 3 resends used by time",
+     "both orders:*UnreadableMessage for one Response with * resends left",
+     "pairs:*UnreadableMessage for one Response with * resends left, resends *",
+     "model:two messages show FirstUnreadableDecides", "model:by hand: FirstUnreadableDecides"),
+    ("the open SessionOk in place of one of the pushes, or of both", "replay:at once: * for SessionOk 6, * for *",
+     "replay:at once: *, * for SessionOk 6, resends *", "both orders:* for *, * for SessionOk",
+     "pairs:* for *, * for SessionOk, resends *", "model:two messages show ObjectionToAPushClosesTheSessionOk",
+     "model:two messages show HeartbeatMovesUnlessAPushWasClosed", "replay:two for one SessionOk: *",
+     "both orders:* for one SessionOk", "pairs:* for one SessionOk, resends *",
+     "model:two messages show SecondForTheSessionOkArrives"),
+))
+
+DOCUMENT_02 = (M_105, M_105_RULINGS, M_110, M_110_RULINGS, M_113)

@@ -1,7 +1,8 @@
 """Sessions that are wrong, to test the tests: each is a mistake that looks right, and some script must show it.
 
 The first ones stand in document 01 ("Errors that look right"), the others turn round a rule or a ruling each. The ones
-about the conduct are in `conduct_mistakes`, those about the number of resends in `resends_mistakes`.
+about the conduct are in `conduct_mistakes`, those about the number of resends in `resends_mistakes`, those about two
+messages at once in `swapped_mistakes`.
 """
 
 import session
@@ -9,6 +10,7 @@ from conduct_mistakes import CONDUCT_MISTAKES
 from resends_mistakes import RESENDS_MISTAKES
 from session import (ACKNOWLEDGED, ADVISED, CONFIRMING, DISCONNECT, LOST, OPENING, SEND_GOING_OUT, STOPPED, UNMATCHED,
                      UP, WAITING, Session, number_named, value_of)
+from swapped_mistakes import SWAPPED_MISTAKES
 
 
 class ClosesTheOldest(Session):
@@ -225,4 +227,4 @@ class TicksWhileConnecting(Session):
 
 
 MISTAKES = tuple(value for value in list(vars().values()) if isinstance(value, type) and issubclass(
-    value, Session) and value is not Session) + CONDUCT_MISTAKES + RESENDS_MISTAKES
+    value, Session) and value is not Session) + CONDUCT_MISTAKES + RESENDS_MISTAKES + SWAPPED_MISTAKES

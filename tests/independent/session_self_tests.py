@@ -1,8 +1,8 @@
 """Tests of the session's model itself, so that the real code is not held against a mistake.
 
 Each raises on a difference. What no script can show is called directly; captured vectors must keep their meaning;
-random scripts must keep the promises that hold for every session; and mistakes must be noticed by the scripts written
-by hand, by the random ones and by the vectors.
+random scripts must keep the promises that hold for every session; two messages at once must be alike in either order;
+and mistakes must be noticed by the scripts written by hand, by the random ones and by the vectors.
 """
 
 import copy
@@ -21,10 +21,13 @@ from session_lines import TO_CONFIRMING, TO_OPENING, TO_UP, script_of
 from session_mistakes import MISTAKES
 from session_sightings import OPENED_BY_REDUNDANT, TO_SEE, WatchedReplay
 from session_vector_text import vector_from_text, vector_to_text
+from swapped_examples import SWAPPED_BY_HAND
+from swapped_printed import printed_tests
+from swapped_sessions import WRONG_ALIKE, swapped_tests
 
 SEED = 911  # the model does not change from run to run, so neither need its tests
 SCRIPTS = 165  # of each style fifteen
-SHORT_SCRIPT = 2000
+SHORT_SCRIPT = 5000
 
 GIVEN = {"push_response": (7,), "push_advisory": (7,), "unreadable": (9,), "message": (
     Answer(0, 0, KINDS.index("Request") + 1, (NOT_THERE,) * len(VALUES)),)}
@@ -289,6 +292,11 @@ def all_self_tests(vector_lines):
     yield from direct_tests()
     yield from captured_tests()
     yield "promises", test_promises
+    yield from swapped_tests()
+    yield from printed_tests()
+    by_tables = [(script, expected) for _, script, expected in SWAPPED_BY_HAND]
+    for mistake in WRONG_ALIKE:
+        yield "tables show " + mistake.__name__, lambda mistake=mistake: test_noticed(mistake, by_tables)
     yield "sightings", test_sightings_are_told_apart
     yield "sightings in the vectors", lambda: test_vectors_meet_resends(vector_lines)
     by_hand, by_chance, by_vectors = list(short_by_hand()), list(random_scripts()), list(scripts_of(vector_lines))

@@ -212,7 +212,7 @@ module _ (n : ℕ) (p : Push) (own : p .number ≡ n) (site : Site) (last : ℕ)
 -- ---- a call, and all pushes with the number n
 
 -- an open push's number is not the open SessionOk's
-not-awaited-too : (n : ℕ) (w : Awaited) (ms : List ℕ) → distinct (awaitedNumbers w ++ ms) ≡ true → among n ms ≡ true
+pub not-awaited-too : (n : ℕ) (w : Awaited) (ms : List ℕ) → distinct (awaitedNumbers w ++ ms) ≡ true → among n ms ≡ true
     → among n (awaitedNumbers w) ≡ false
 not-awaited-too n awaited.Nothing ms d h = refl
 not-awaited-too n (awaited.Ok m) ms d h = rw (ne-eqb n m (λ e. true-false h (rw e (distinct-head m ms d))))

@@ -1,7 +1,8 @@
 -- The laws about sessions; a promise of specs/ names the files that show it. `Among`, `Lists`, `Loops` and `Free` are about lists and numbers, `Good`, `Moves`,
 -- `Fair`, `Kept`, `Said`, `Sweeps` and `Calls` about one call in its parts, `Places` and `Given` about a place in a history. Of a push, `Bearings` says what
 -- becomes of it by what bears on it, `Story` over its life, `Turns` in one call, `Still` while it is open, `Due` what is due of it and `Sayings` what tests find
--- of it. `Sites` and `Elsewhere` are about what a session was made with. `Onward`, `Acted`, `Clocks` and `Lasting` are for the laws on timers. What
+-- of it. `Others`, `Named` and `Touched` say what a message that names a number does in Up, `Judged` what it does to one
+-- push. `Sites` and `Elsewhere` are about what a session was made with. `Onward`, `Acted`, `Clocks` and `Lasting` are for the laws on timers. What
 -- `WaitingAtWork` and its like say, antt computes.
 pub mod Among
 pub mod Refused
@@ -67,7 +68,14 @@ pub mod RefusalsAtWork
 pub mod SoundAtWork
 pub mod ResendsAtWork
 pub mod FatesAtWork
+pub mod SwappedAtWork
 pub mod OneAnswer
 pub mod OpenResponses
 pub mod CountedAs
 pub mod Conducts
+pub mod Others
+pub mod Named
+pub mod Touched
+pub mod Swapped
+pub mod Judged
+pub mod Twice

@@ -27,6 +27,10 @@ flat-append f [] ys = refl
 flat-append {B = B} f (x ∷ xs) ys =
     ap (λ (zs : List B). f x ++ zs) (flat-append f xs ys) ∙ sym (append-assoc (f x) (flat f xs) (flat f ys))
 
+pub flat-flat : {A B C : Type 0} (f : B → List C) (g : A → List B) (xs : List A) → flat f (flat g xs) ≡ flat (λ (x : A). flat f (g x)) xs
+flat-flat f g [] = refl
+flat-flat {C = C} f g (x ∷ xs) = flat-append f (g x) (flat g xs) ∙ ap (λ (ys : List C). flat f (g x) ++ ys) (flat-flat f g xs)
+
 pub map-append : {A B : Type 0} (f : A → B) (xs ys : List A) → map f (xs ++ ys) ≡ map f xs ++ map f ys
 map-append f [] ys = refl
 map-append {B = B} f (x ∷ xs) ys = ap (λ (zs : List B). f x ∷ zs) (map-append f xs ys)

@@ -131,7 +131,7 @@ elsewhere kinds.Advisory state h l o = absurd (true-false h refl)
 elsewhere kinds.Request state h l o = absurd (true-false h refl)
 elsewhere kinds.Response state h l o = absurd (true-false h refl)
 
-still-kept : (terms : Terms) (ps : List Push) → flat (keeps terms sweeps.Still) ps ++ [] ≡ ps
+pub still-kept : (terms : Terms) (ps : List Push) → flat (keeps terms sweeps.Still) ps ++ [] ≡ ps
 still-kept terms [] = refl
 still-kept terms (p ∷ ps) = ap (_∷_ p) (still-kept terms ps)
 

@@ -24,5 +24,7 @@ pub mod AtWorkMessages
 pub mod AtWorkNumbers
 pub mod AtWorkRefusals
 pub mod AtWorkResends
+pub mod AtWorkSwapped
 pub mod Conducts
+pub mod Swapped
 pub mod Resends

@@ -87,7 +87,7 @@ module _ (bytes : List ℕ) (n : ℕ) where
   kind-bears b m read kinds.Request is h = absurd (none-bears h)
   kind-bears b m read kinds.Response is h = absurd (none-bears h)
 
-  bears : (b : Bearing) → bearingOf n bytes ≡ b ∷ [] → Bears b
+  pub bears : (b : Bearing) → bearingOf n bytes ≡ b ∷ [] → Bears b
   bears b h = go (messageOf classOf linkLimits bytes) refl h
     where
       go : (r : Reading Message) → messageOf classOf linkLimits bytes ≡ r → callBearing n (callOf r) ≡ b ∷ [] → Bears b
@@ -96,11 +96,11 @@ module _ (bytes : List ℕ) (n : ℕ) where
 
   -- ---- and the other way
 
-  ok-bears : OkNaming bytes n → bearingOf n bytes ≡ acknowledged ∷ []
+  pub ok-bears : OkNaming bytes n → bearingOf n bytes ≡ acknowledged ∷ []
   ok-bears a =
       rw (a .is-read, a .is-kind, names-number n (a .message .«in_response_to») (a .is-there) (a .names-it)) refl
 
-  advisory-bears : (a : AdvisoryNaming bytes n) → bearingOf n bytes ≡ advisoryBearing (a .message) ∷ []
+  pub advisory-bears : (a : AdvisoryNaming bytes n) → bearingOf n bytes ≡ advisoryBearing (a .message) ∷ []
   advisory-bears a =
       rw (a .is-read, a .is-kind, names-number n (a .message .«in_relation_to») (a .is-there) (a .names-it)) refl
 

@@ -21,11 +21,11 @@ use Rattle.conduct.proofs.Good.{good}
 use Rattle.conduct.proofs.Refused.{refused-changes-nothing, refused-by}
 use Rattle.conduct.proofs.Few.{few-events}
 use Rattle.conduct.proofs.Reached.{sound-step, made-is-sound}
-use Rattle.session.specs.Rows.{noPush, tableOf, isBlank, eventsOf}
+use Rattle.session.specs.Rows.{noPush, tableOf, isBlank, eventsOf, listOf}
 use Rattle.session.specs.Record.{sessionOf, recordOf, consistent}
 use Rattle.session.specs.Answers.{toldOf, refuse, told, written}
 use Rattle.session.specs.Code.{Asked, answerTo, seen, answers, roomy, heeded, AnswersAreHistory, MadeIsConsistent, ReachedIsConsistent}
-use Rattle.session.specs.Code.{ShortListRefused, InconsistentRefused, RefusedReturnsTheOld, ListFits, LentSaysTheSame, LastAlone}
+use Rattle.session.specs.Code.{ShortListRefused, InconsistentRefused, RefusedReturnsTheOld, ListFits, LentListWritten, LentSaysTheSame, LastAlone}
 use Rattle.session.specs.declared.Session.{Session as Record}
 use Rattle.session.specs.declared.Told.{Told}
 use Rattle.session.proofs.Rows.{list-of, events-count}
@@ -55,10 +55,10 @@ module _ (places : ℕ) (d : Record) (c : Call) where
   abbrev toldWith : Bool → Bool → Told
   toldWith short passes = cond short (refuse 3 d) (cond passes (toldOf (step (sessionOf d) c)) (refuse 27 d))
 
-  told-steps : leb 40 places ≡ true → consistent d ≡ true → told places d c ≡ toldOf (step (sessionOf d) c)
+  pub told-steps : leb 40 places ≡ true → consistent d ≡ true → told places d c ≡ toldOf (step (sessionOf d) c)
   told-steps room passes = rw (le-ltb places 40 (leb-true 40 places room), passes)
 
-  next-consistent : consistent d ≡ true → consistent (told places d c .next) ≡ true
+  pub next-consistent : consistent d ≡ true → consistent (told places d c .next) ≡ true
   next-consistent passes = go (ltb places 40)
     where
       go : (short : Bool) → consistent (toldWith short (consistent d) .next) ≡ true
@@ -159,6 +159,10 @@ answers-are-history d (a ∷ rest) passes = go (roomy a) refl (λ e h. answers-a
     go false e ih = rw (lt-ltb (a .places) 40 (leb-false 40 (a .places) e)) (ih d passes)
 
 -- ---- with a lent list, and with another last number
+
+pub lent-list-written : LentListWritten
+unfolding listOf
+lent-list-written t list left r is = is
 
 pub lent-says-the-same : LentSaysTheSame
 lent-says-the-same t = refl

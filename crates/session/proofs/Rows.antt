@@ -1,6 +1,6 @@
 -- Laws of lists with blanks behind them, and of the tables and event lists that hold them: a table holds what it was made of, and a store
 -- behind the list makes it one longer. Assumes nothing.
-use mathlib.Core.Path.{_≡_, sym, ap, _∙_}
+use mathlib.Core.Path.{_≡_, refl, sym, ap, _∙_}
 use mathlib.Core.List.{List, [], _∷_, _++_, map, append-nil, append-assoc}
 use Prim.Native.Nat.{ℕ, suc, _+_, _-_, _≤_, _<_}
 use native.Mathlib.Omega.{arith}
@@ -9,6 +9,7 @@ use lib.Seq.{take-append-seam, set-append-seam}
 use Rattle.conduct.specs.declared.Push.{Push}
 use Rattle.conduct.specs.declared.Event.{Event}
 use Rattle.session.specs.Rows.{padded, noPush, noEvent, tableOf, rowsOf, Packed, eventsOf, listOf, Listed}
+use Rattle.session.specs.Code.{EventsInFront}
 use Rattle.session.specs.declared.Table.{Table}
 use Rattle.session.specs.declared.Events.{Events}
 
@@ -65,6 +66,10 @@ table-more t ps p e room =
     ∙ (λ i. record { rows = padded-more 32 noPush ps p room i; count = length-more ps p i })
 
 -- ---- events
+
+pub events-in-front : EventsInFront
+unfolding listOf
+events-in-front e = refl
 
 pub list-of : (es : List Event) → listOf (eventsOf es) ≡ es
 unfolding listOf eventsOf

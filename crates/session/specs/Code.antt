@@ -1,4 +1,4 @@
--- Promise: the code's answers are the history: what calls of a record answer, call by call, is what its session does. (proofs/Histories, Making, Following)
+-- Promise: the code's answers are the history: what calls of a record answer, call by call, is what its session does. (proofs/Histories, Rows, Making, Following)
 -- By their contracts the public calls answer `told`, so what is said here of `told` is said of the code. Assumes nothing.
 use mathlib.Core.Path.{_≡_}
 use mathlib.Core.Bool.{Bool, true, not}
@@ -6,7 +6,7 @@ use mathlib.Core.List.{List, [], _∷_, _++_, map}
 use mathlib.Core.Logic.{_⊎_}
 use Prim.Native.Nat.{ℕ, _≤_, _<_}
 use lib.Dec.{leb, ltb, eqb}
-use lib.ListN.{length}
+use lib.ListN.{length, take, drop}
 use Rattle.conduct.specs.declared.Call.{Call}
 use Rattle.conduct.specs.declared.Call.the-variants as calls
 use Rattle.conduct.specs.declared.Conduct.the-variants.{New}
@@ -21,9 +21,11 @@ use Rattle.conduct.specs.Followed.{firstCode, Followed}
 use Rattle.conduct.specs.Reached.{Tested}
 use Rattle.session.specs.Rows.{rowsOf, eventsOf, listOf}
 use Rattle.session.specs.Record.{sessionOf, consistent, madeOf, withLast}
-use Rattle.session.specs.Answers.{told, saidOf, written}
+use Rattle.session.specs.Answers.{told, saidOf, written, SaysAndWrites}
 use Rattle.session.specs.declared.Session.{Session as Record}
+use Rattle.session.specs.declared.Events.{Events}
 use Rattle.session.specs.declared.Told.{Told}
+use Rattle.session.specs.declared.Said.{Said}
 
 -- ---- calls one after the other, each on the record that the one before handed back
 
@@ -122,6 +124,18 @@ RefusedReturnsTheOld =
 
 abbrev pub ListFits : Type 0
 ListFits = (places : ℕ) (d : Record) (c : Call) → (told places d c .events .count ≤ places) × (told places d c .events .count ≤ 34)
+
+-- ---- the events of an answer are the first of its list, as many as it counts
+
+abbrev pub EventsInFront : Type 0
+EventsInFront = (e : Events) → listOf e ≡ take (e .count) (e .list)
+
+-- a call with a lent list answers what the same call by value does, and writes just its events to the start of the list
+abbrev pub LentListWritten : Type 0
+LentListWritten =
+    (t : Told) (list left : List Event) (r : Said) → SaysAndWrites t list r left
+    → (r ≡ record { refusal = t .refusal; next = t .next; count = t .events .count })
+    × (left ≡ take (t .events .count) (t .events .list) ++ drop (t .events .count) list)
 
 -- ---- a call with a lent list answers what the same call by value does, and the last number is set alone
 
