@@ -2,30 +2,21 @@
 -- `tale`. In a sound session that is up and stays up, an accepted call does to the pushes with the number n what it is to n.
 -- Assumes nothing.
 use mathlib.Core.Path.{_≡_, refl, sym, ap, ap₂, subst⁻¹, _∙_}
-use mathlib.Core.Bool.{Bool, true, false, cond, _&&_}
+use mathlib.Core.Bool.{Bool, true, false, cond}
 use mathlib.Core.List.{List, [], _∷_, _++_}
 use Prim.Native.Nat.{ℕ, _+_}
+use native.Mathlib.Omega.{arith}
 use lib.Dec.{eqb, ltb}
 use borrow.Author.Tests.{eq-eqb, ne-eqb, eqb-true}
 use Rattle.laws.proofs.Tests.{true-false}
-use Rattle.message.specs.declared.Kind.{Kind}
-use Rattle.message.specs.declared.Kind.the-variants as kinds
-use Rattle.message.specs.declared.Number.{Number}
-use Rattle.message.specs.declared.Number.the-variants as numbers
-use Rattle.message.specs.declared.Advice.{Advice}
-use Rattle.message.specs.declared.Advice.the-variants as advices
-use Rattle.message.specs.declared.NumberValue.{NumberValue}
-use Rattle.message.specs.declared.Message.{Message}
 use Rattle.message.proofs.Laws.{cond-cases, cond-both}
 use Rattle.conduct.specs.Lists.{flat, among, distinct}
-use Rattle.conduct.specs.Codes.{sendResponseAgain, closedAcknowledged, closedAdvised, closedTimedOut, advisoryArrived}
+use Rattle.conduct.specs.Codes.{sendResponseAgain, closedAcknowledged, closedAdvised, closedTimedOut}
 use Rattle.conduct.specs.Pushes.{termsOf, eventOf, older, sentAgain, mayGoAgain, againOr, fateOf, keptBy, toldBy}
 use Rattle.conduct.specs.Session.{Session, isUp, awaitedNumbers, pushNumbers, held}
 use Rattle.conduct.specs.Sound.{sound}
-use Rattle.conduct.specs.Table.{actionOf}
-use Rattle.conduct.specs.Rules as rules
-use Rattle.conduct.specs.Rules.{goes, touches, note, tick, namedBy, matchesNothing, advisedAbout, acted, moveOf}
-use Rattle.conduct.specs.History.{codesOf, namesNumber, names, isUnreadableMessage, Bearing, adviceBearing, messageBearing, callBearing}
+use Rattle.conduct.specs.Rules.{tick, moveOf}
+use Rattle.conduct.specs.History.{codesOf, Bearing, callBearing}
 use Rattle.conduct.specs.History.Bearing.{ticked, acknowledged, unreadableMessage, advised}
 use Rattle.conduct.specs.declared.Awaited.{Awaited}
 use Rattle.conduct.specs.declared.Awaited.the-variants as awaited
@@ -36,15 +27,16 @@ use Rattle.conduct.specs.declared.Pushed.{Pushed}
 use Rattle.conduct.specs.declared.Push.{Push}
 use Rattle.conduct.specs.declared.Call.{Call}
 use Rattle.conduct.specs.declared.Call.the-variants as calls
-use Rattle.conduct.specs.declared.Sweep.{Sweep}
 use Rattle.conduct.specs.declared.Sweep.the-variants as sweeps
 use Rattle.conduct.specs.declared.Fate.{Fate}
 use Rattle.conduct.specs.declared.Fate.the-variants.{Keep, Again, Close}
-use Rattle.conduct.specs.declared.Remark.{Remark}
-use Rattle.conduct.specs.declared.Remark.the-variants as remarks
 use Rattle.conduct.specs.declared.Move.{Move}
 use Rattle.conduct.specs.declared.Terms.{Terms}
 use Rattle.conduct.proofs.Lists.{distinct-head}
+use Rattle.conduct.proofs.Story.{tickIn}
+use Rattle.conduct.proofs.Others.{sweepBy, aside}
+use Rattle.conduct.proofs.Named.{moveBy, Naming, heard-naming}
+use Rattle.conduct.proofs.Named.Naming.{names-one, names-none}
 use Rattle.conduct.proofs.Good.{good}
 use Rattle.conduct.proofs.Sweeps.{mine}
 use Rattle.conduct.proofs.Calls.{none-mine}
@@ -128,69 +120,40 @@ module _ (n : ℕ) (p : Push) (own : p .number ≡ n) (site : Site) (last : ℕ)
     abbrev fateFrom : Move → Fate
     fateFrom m = fateOf terms (m .sweep) p
 
-    -- a message that names the number m, where x: m is the open SessionOk's, and y: it is an open push's
-    abbrev naming : (ℕ → Sweep) → Remark → ℕ → Bool → Bool → Move
-    naming f said m x y = cond x (goes (Up awaited.Nothing age) said) (cond y (touches (Up waiting age) (f m)) (matchesNothing (Up waiting age)))
+    -- what a message that names n is to p
+    own-fate : (b : Bearing) → tickIn (b ∷ []) ≡ 0 → fateOf terms (sweepBy n b) p ≡ fateBy terms b p
+    own-fate ticked quiet = absurd (omega (arith, quiet))
+    own-fate acknowledged quiet = rw (eq-eqb (p .number) n own)
+    own-fate unreadableMessage quiet = rw (eq-eqb (p .number) n own)
+    own-fate advised quiet = rw (eq-eqb (p .number) n own)
 
-    -- it is something to p just if m is n
-    named-is : (b : Bearing) (f : ℕ → Sweep) (said : Remark) (m : ℕ)
-        → fateOf terms (f n) p ≡ fateBy terms b p → (eqb (p .number) m ≡ false → fateOf terms (f m) p ≡ Keep p)
-        → fateFrom (naming f said m (among m (awaitedNumbers waiting)) (among m (pushNumbers ps))) ≡ fateIn terms (cond (eqb m n) (b ∷ []) []) p
-    named-is b f said m same aside =
-        cond-cases (λ (bs : List Bearing). fateFrom (naming f said m x y) ≡ fateIn terms bs p) (eqb m n) (λ e. its-own (eqb-true m n e))
-        (λ e. other x y (ne-eqb (p .number) m (λ d. true-false (eq-eqb m n (sym d ∙ own)) e)))
+    -- one that names the number j is something to p just if j is n
+    named-is : (j : ℕ) (b : Bearing) → tickIn (b ∷ []) ≡ 0
+        → fateFrom (moveBy j waiting age (among j (awaitedNumbers waiting)) (among j (pushNumbers ps)) b) ≡ fateIn terms (cond (eqb j n) (b ∷ []) []) p
+    named-is j b quiet =
+        cond-cases (λ (bs : List Bearing). fateFrom (moveBy j waiting age x y b) ≡ fateIn terms bs p) (eqb j n) (λ e. its-own (eqb-true j n e))
+        (λ e. other x y (ne-eqb (p .number) j (λ d. true-false (eq-eqb j n (sym d ∙ own)) e)))
       where
         x : Bool
-        x = among m (awaitedNumbers waiting)
+        x = among j (awaitedNumbers waiting)
 
         y : Bool
-        y = among m (pushNumbers ps)
+        y = among j (pushNumbers ps)
 
-        its-own : m ≡ n → fateFrom (naming f said m x y) ≡ fateBy terms b p
+        its-own : j ≡ n → fateFrom (moveBy j waiting age x y b) ≡ fateBy terms b p
         its-own e =
             let no-ok : x ≡ false = rw e not-awaited in
             let a-push : y ≡ true = rw e is-open in
-            rw (no-ok, a-push, e) same
+            rw (no-ok, a-push, e) (own-fate b quiet)
 
-        other : (x y : Bool) → eqb (p .number) m ≡ false → fateFrom (naming f said m x y) ≡ Keep p
+        other : (x y : Bool) → eqb (p .number) j ≡ false → fateFrom (moveBy j waiting age x y b) ≡ Keep p
         other true y e = refl
-        other false true e = aside e
+        other false true e = aside terms j b p e
         other false false e = refl
 
-    ok-is : (v : NumberValue) → fateFrom (rules.acknowledged s (namedBy v)) ≡ fateIn terms (cond (names n v) (acknowledged ∷ []) []) p
-    ok-is v = go (v .there) (v .number)
-      where
-        go : (there : Bool) (number : Number)
-            → fateFrom (rules.acknowledged s (cond there number numbers.Nothing))
-            ≡ fateIn terms (cond (there && namesNumber n number) (acknowledged ∷ []) []) p
-        go false number = refl
-        go true numbers.Nothing = refl
-        go true (numbers.Names m) =
-            named-is acknowledged sweeps.Acknowledged remarks.Nothing m (rw (eq-eqb (p .number) n own)) (λ e. rw e)
-
-    advisory-is : (m : Message) → fateFrom (rules.advised s m) ≡ fateIn terms (messageBearing n m kinds.Advisory) p
-    advisory-is m = go (m .«in_relation_to» .there) (m .«in_relation_to» .number) (m .«advisory_type» .there) (m .«advisory_type» .advice)
-      where
-        go : (there : Bool) (number : Number) (typed : Bool) (advice : Advice)
-            → fateFrom (cond there (advisedAbout s (cond typed advice advices.Other) number) (goes (s .state) (note advisoryArrived)))
-            ≡ fateIn terms (cond (there && namesNumber n number) (adviceBearing (typed && isUnreadableMessage advice) ∷ []) []) p
-        go false number typed advice = refl
-        go true numbers.Nothing typed advice = refl
-        go true (numbers.Names m) true advices.UnreadableMessage =
-            named-is unreadableMessage sweeps.UnreadableMessage (note advisoryArrived) m (rw (eq-eqb (p .number) n own)) (λ e. rw e)
-        go true (numbers.Names m) true advices.Other =
-            named-is advised sweeps.Advised (note advisoryArrived) m (rw (eq-eqb (p .number) n own)) (λ e. rw e)
-        go true (numbers.Names m) false advice =
-            named-is advised sweeps.Advised (note advisoryArrived) m (rw (eq-eqb (p .number) n own)) (λ e. rw e)
-
-    heard-is : (m : Message) (k : Kind) → fateFrom (acted s m (actionOf (Up waiting age) k)) ≡ fateIn terms (messageBearing n m k) p
-    heard-is m kinds.SessionOpenRequest = refl
-    heard-is m kinds.SessionOpenResponse = refl
-    heard-is m kinds.SessionOk = refl
-    heard-is m kinds.Ok = ok-is (m .«in_response_to»)
-    heard-is m kinds.Advisory = advisory-is m
-    heard-is m kinds.Request = refl
-    heard-is m kinds.Response = refl
+    heard-is : {bearing : ℕ → List Bearing} {m : Move} → Naming waiting age ps bearing m → fateFrom m ≡ fateIn terms (bearing n) p
+    heard-is (names-none still none) = rw (still, none n)
+    heard-is (names-one j b quiet is bears) = ap fateFrom is ∙ (named-is j b quiet ∙ ap (λ (bs : List Bearing). fateIn terms bs p) (sym (bears n)))
 
     -- a tick after which the session is still up
     abbrev TickIs : Move → Type 0
@@ -206,7 +169,7 @@ module _ (n : ℕ) (p : Push) (own : p .number ≡ n) (site : Site) (last : ℕ)
     call-is calls.Lost u = absurd (true-false u refl)
     call-is calls.Stop u = absurd (true-false u refl)
     call-is (calls.Push what handle) u = refl
-    call-is (calls.Heard m) u = heard-is m (m .kind)
+    call-is (calls.Heard m) u = heard-is (heard-naming site last waiting age ps m (m .kind))
     call-is (calls.Unreadable refusal) u = refl
 
 -- ---- a call, and all pushes with the number n

@@ -7,18 +7,14 @@ use native.Mathlib.Omega.{arith}
 use lib.Dec.{leb, eqb}
 use borrow.Author.Tests.{eq-eqb, leb-true}
 use Rattle.laws.proofs.Tests.{true-false, neither}
-use Rattle.message.specs.declared.Kind.{Kind}
-use Rattle.message.specs.declared.Kind.the-variants as kinds
 use Rattle.message.specs.declared.Advice.{Advice}
 use Rattle.message.specs.declared.Advice.the-variants.{UnreadableMessage, Other}
-use Rattle.message.specs.declared.Message.{Message}
-use Rattle.message.proofs.Laws.{cond-both}
 use Rattle.conduct.specs.Lists.{flat, all, among, distinct}
 use Rattle.conduct.specs.Pushes.{termsOf, eventOf, sentAgain, mayGoAgain, keptBy, toldBy, keeps, tells}
 use Rattle.conduct.specs.Session.{Session, isUp, awaitedNumbers, pushNumbers}
 use Rattle.conduct.specs.Sound.{soundPush, sound}
 use Rattle.conduct.specs.Step.{step}
-use Rattle.conduct.specs.History.{names, isUnreadableMessage, Bearing, adviceBearing, saysUnreadable, messageBearing}
+use Rattle.conduct.specs.History.{Bearing, saysUnreadable}
 use Rattle.conduct.specs.History.Bearing.{ticked, acknowledged, unreadableMessage, advised}
 use Rattle.conduct.specs.Followed.{mostResendings, dueFor}
 use Rattle.conduct.specs.Swapped.{Names, UnreadableByItsType, saysOf, staysBy, judged}
@@ -36,46 +32,26 @@ use Rattle.conduct.proofs.Story.{tickIn}
 use Rattle.conduct.proofs.Bearings.{not-awaited-too}
 use Rattle.conduct.proofs.Others.{sweepBy, all-aside, leftBy}
 use Rattle.conduct.proofs.Named.{upWith}
-use Rattle.conduct.proofs.Touched.{named-step}
+use Rattle.conduct.proofs.Touched.{named-step, no-tick}
 use Rattle.conduct.proofs.Swapped.{in-up}
 
--- ---- a message is no tick
-
-abbrev NoTick : List Bearing → Type 0
-NoTick bs = bs ≡ ticked ∷ [] → ⊥
-
-not-ticked : (n : ℕ) (m : Message) (k : Kind) → NoTick (messageBearing n m k)
-not-ticked n m k h = omega (arith, ap tickIn h, quiet k)
-  where
-    advice-quiet : (unreadable : Bool) → tickIn (adviceBearing unreadable ∷ []) ≡ 0
-    advice-quiet true = refl
-    advice-quiet false = refl
-
-    quiet : (k : Kind) → tickIn (messageBearing n m k) ≡ 0
-    quiet kinds.SessionOpenRequest = refl
-    quiet kinds.SessionOpenResponse = refl
-    quiet kinds.SessionOk = refl
-    quiet kinds.Ok = cond-both (λ (bs : List Bearing). tickIn bs ≡ 0) (names n (m .«in_response_to»)) refl refl
-    quiet kinds.Advisory = cond-both (λ (bs : List Bearing). tickIn bs ≡ 0) (names n (m .«in_relation_to»)) (advice-quiet (saysUnreadable m)) refl
-    quiet kinds.Request = refl
-    quiet kinds.Response = refl
-
-pub no-tick : {c : Call} {n : ℕ} (x : Names c n) → x .bearing ≡ ticked → ⊥
-no-tick {n = n} x h = not-ticked n (x .message) (x .message .kind) (x .bears ∙ ap (λ (b : Bearing). b ∷ []) h)
-
 -- ---- which Advisory is an UnreadableMessage
-
-unreadable-message : (advice : Advice) → isUnreadableMessage advice ≡ true → advice ≡ UnreadableMessage
-unreadable-message UnreadableMessage h = refl
-unreadable-message Other h = absurd (true-false h refl)
 
 pub unreadable-by-its-type : UnreadableByItsType
 unreadable-by-its-type m = (
   λ h.
-      let says = both-of (m .«advisory_type» .there) (isUnreadableMessage (m .«advisory_type» .advice)) h in
-      (says .0, unreadable-message (m .«advisory_type» .advice) (says .1)),
+      let there = is-there (m .«advisory_type» .there) refl h in
+      (there, is-it (m .«advisory_type» .advice) refl there h),
   λ there is. rw (there, is),
 )
+  where
+    is-there : (there : Bool) → m .«advisory_type» .there ≡ there → saysUnreadable m ≡ true → there ≡ true
+    is-there true e h = refl
+    is-there false e h = absurd (true-false h (rw e))
+
+    is-it : (advice : Advice) → m .«advisory_type» .advice ≡ advice → m .«advisory_type» .there ≡ true → saysUnreadable m ≡ true → advice ≡ UnreadableMessage
+    is-it UnreadableMessage e there h = refl
+    is-it Other e there h = absurd (true-false h (rw (there, e)))
 
 -- ---- the push alone
 
@@ -86,8 +62,8 @@ module _ (terms : Terms) (p : Push) where
   its-own : eqb (p .number) (p .number) ≡ true
   its-own = eq-eqb (p .number) (p .number) refl
 
-  stays-due : (b : Bearing) → (b ≡ ticked → ⊥) → keeps terms (sweepBy (p .number) b) p ≡ flat (staysBy p) (codes b)
-  stays-due ticked h = absurd (h refl)
+  stays-due : (b : Bearing) → tickIn (b ∷ []) ≡ 0 → keeps terms (sweepBy (p .number) b) p ≡ flat (staysBy p) (codes b)
+  stays-due ticked h = absurd (omega (arith, h))
   stays-due acknowledged h = rw its-own
   stays-due unreadableMessage h = rw its-own (go (mayGoAgain terms p))
     where
@@ -96,8 +72,8 @@ module _ (terms : Terms) (p : Push) where
       go false = refl
   stays-due advised h = rw its-own
 
-  told-due : (b : Bearing) → (b ≡ ticked → ⊥) → tells terms (sweepBy (p .number) b) p ≡ map (saysOf p) (codes b)
-  told-due ticked h = absurd (h refl)
+  told-due : (b : Bearing) → tickIn (b ∷ []) ≡ 0 → tells terms (sweepBy (p .number) b) p ≡ map (saysOf p) (codes b)
+  told-due ticked h = absurd (omega (arith, h))
   told-due acknowledged h = rw its-own
   told-due unreadableMessage h = rw its-own (go (mayGoAgain terms p))
     where
@@ -171,8 +147,9 @@ module _ (site : Site) (last : ℕ) (w : Awaited) (age : ℕ) (before : List Pus
     pub judged-up : (a : Call) (x : Names a n) → step s a ≡ judged s before p behind (x .bearing)
     judged-up a x =
         let b = x .bearing in
-        let kept = left-among b ∙ ap (λ (qs : List Push). before ++ (qs ++ behind)) (stays-due terms p b (no-tick x)) in
-        let told = told-among b ∙ told-due terms p b (no-tick x) in
+        let message = no-tick site last w age (before ++ p ∷ behind) n a x in
+        let kept = left-among b ∙ ap (λ (qs : List Push). before ++ (qs ++ behind)) (stays-due terms p b message) in
+        let told = told-among b ∙ told-due terms p b message in
         named-step site last w age (before ++ p ∷ behind) n a x differ
         ∙ (rw (not-awaited, is-open) (λ i. record { refusal = 0; next = upWith site last w age (kept i); events = told i })
         ∙ ap (λ (left : Bool). record {

@@ -7,7 +7,8 @@ use Rattle.laws.proofs.Tests.{true-false, never}
 use Rattle.conduct.specs.Lists.{flat, among, distinct}
 use Rattle.conduct.specs.Pushes.{termsOf, tells}
 use Rattle.conduct.specs.Session.{Session, awaitedNumbers, pushNumbers}
-use Rattle.conduct.specs.Rules.{goes, touches, matchesNothing}
+use Rattle.conduct.specs.Table.{actionOf}
+use Rattle.conduct.specs.Rules.{goes, touches, matchesNothing, acted}
 use Rattle.conduct.specs.Step.{Answered, movedBy, eventsBy, step}
 use Rattle.conduct.specs.History.{Bearing}
 use Rattle.conduct.specs.History.Bearing.{ticked, acknowledged, unreadableMessage, advised}
@@ -23,10 +24,11 @@ use Rattle.conduct.specs.declared.Sweep.the-variants as sweeps
 use Rattle.conduct.specs.declared.Move.{Move}
 use Rattle.conduct.specs.declared.Terms.{Terms}
 use Rattle.conduct.proofs.Lists.{flat-nothing}
+use Rattle.conduct.proofs.Story.{tickIn}
 use Rattle.conduct.proofs.Bearings.{not-awaited-too}
 use Rattle.conduct.proofs.OpenResponses.{still-kept}
 use Rattle.conduct.proofs.Others.{sweepBy, leftBy, all-aside}
-use Rattle.conduct.proofs.Named.{upWith, remarkBy, moveBy, heard-moves}
+use Rattle.conduct.proofs.Named.{upWith, remarkBy, moveBy, heard-naming, named-move}
 
 -- the open SessionOk, if the message does not name it
 abbrev pub waitsBeside : ℕ → Awaited → Awaited
@@ -85,8 +87,14 @@ module _ (site : Site) (last : ℕ) (w : Awaited) (age : ℕ) (ps : List Push) (
       go false e false f =
           finds-nothing ∙ (λ i. left w (sym (all-aside terms n b ps f .0) i) (unmatchedEvent ∷ []))
 
-  pub named-step : (c : Call) (x : Names c n) → distinct (awaitedNumbers w ++ pushNumbers ps) ≡ true
-      → step s c ≡ left (waitsBeside n w) (leftBy terms n (x .bearing) ps) (saysBy terms w ps n (x .bearing))
-  named-step c x differ =
-      ap (step s) (x .is-heard)
-      ∙ (ap made (heard-moves site last w age ps n (x .message) (x .message .kind) (x .bearing) (x .bears)) ∙ by-place (x .bearing) differ)
+  module _ (c : Call) (x : Names c n) where
+    moved : (acted s (x .message) (actionOf (Up w age) (x .message .kind)) ≡ moveBy n w age (among n (awaitedNumbers w)) (among n (pushNumbers ps)) (x .bearing))
+        × (tickIn (x .bearing ∷ []) ≡ 0)
+    moved = named-move n (x .bearing) (heard-naming site last w age ps (x .message) (x .message .kind)) (x .bears)
+
+    pub named-step : distinct (awaitedNumbers w ++ pushNumbers ps) ≡ true
+        → step s c ≡ left (waitsBeside n w) (leftBy terms n (x .bearing) ps) (saysBy terms w ps n (x .bearing))
+    named-step differ = ap (step s) (x .is-heard) ∙ (ap made (moved .0) ∙ by-place (x .bearing) differ)
+
+    pub no-tick : tickIn (x .bearing ∷ []) ≡ 0
+    no-tick = moved .1

@@ -3,6 +3,7 @@ use mathlib.Core.Path.{_≡_, refl, sym, ap, _∙_, subst⁻¹}
 use mathlib.Core.Bool.{Bool, true, false}
 use mathlib.Core.List.{List, [], _∷_, _++_, map}
 use Prim.Native.Nat.{ℕ}
+use native.Mathlib.Omega.{arith}
 use lib.Dec.{leb}
 use borrow.Author.Tests.{eq-eqb}
 use Rattle.laws.proofs.Tests.{true-false, neither}
@@ -24,11 +25,12 @@ use Rattle.conduct.specs.declared.Call.{Call}
 use Rattle.conduct.proofs.Lists.{map-append, among-append, distinct-head}
 use Rattle.conduct.proofs.Good.{good}
 use Rattle.conduct.proofs.Reached.{sound-step}
+use Rattle.conduct.proofs.Story.{tickIn}
 use Rattle.conduct.proofs.Others.{all-aside}
 use Rattle.conduct.proofs.Named.{upWith}
-use Rattle.conduct.proofs.Touched.{named-step}
+use Rattle.conduct.proofs.Touched.{named-step, no-tick}
 use Rattle.conduct.proofs.Swapped.{in-up}
-use Rattle.conduct.proofs.Judged.{no-tick, others, not-awaited, judged-up, in-place}
+use Rattle.conduct.proofs.Judged.{others, not-awaited, judged-up, in-place}
 
 -- what is due on a message closes it, and then nothing is left of it, or else it was an UnreadableMessage with a sending left
 due-closes : (p : Push) (left : Bool) (b : Bearing) → some isClosing (map (saysOf p) (dueFor left false (b ∷ []))) ≡ true
@@ -39,9 +41,9 @@ due-closes p true unreadableMessage h = absurd (true-false h refl)
 due-closes p false unreadableMessage h = refl
 due-closes p left advised h = refl
 
-due-again : (p : Push) (left : Bool) (b : Bearing) → (b ≡ ticked → ⊥) → some isClosing (map (saysOf p) (dueFor left false (b ∷ []))) ≡ false
+due-again : (p : Push) (left : Bool) (b : Bearing) → tickIn (b ∷ []) ≡ 0 → some isClosing (map (saysOf p) (dueFor left false (b ∷ []))) ≡ false
     → (b ≡ unreadableMessage) × (left ≡ true)
-due-again p left ticked message h = absurd (message refl)
+due-again p left ticked message h = absurd (omega (arith, message))
 due-again p left acknowledged message h = absurd (true-false refl h)
 due-again p true unreadableMessage message h = (refl, refl)
 due-again p false unreadableMessage message h = absurd (true-false refl h)
@@ -98,7 +100,7 @@ module _ (site : Site) (last : ℕ) (w : Awaited) (age : ℕ) (before : List Pus
         → (x .bearing ≡ unreadableMessage)
         × (step s a ≡ record { refusal = 0; next = upWith site last w age (before ++ onceMore p ∷ behind); events = saysOf p 5 ∷ [] })
     again h =
-        let due = due-again p sendingLeft (x .bearing) (no-tick x) (sym said ∙ h) in
+        let due = due-again p sendingLeft (x .bearing) (no-tick site last w age (before ++ p ∷ behind) n a x) (sym said ∙ h) in
         (due .0, judged-up site last w age before p behind ok a x ∙ rw (due .0, due .1))
 
     one-after-other : OneAfterOther s before p behind a b (x .bearing) (y .bearing)
