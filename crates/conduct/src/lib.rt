@@ -1,5 +1,7 @@
 // What a provider's session is made of (document 01, "The session"): its states, its pushes, its calls and its events. `specs/` has the paper's rules as
 // definitions, and what is promised about them; `proofs/` shows it. The code is in crates/rules and crates/session.
+#![tactic(auto)]
+
 pub mod codes;
 
 ghost use Rattle.std.specs.Prelude.{◌≡◌};
@@ -8,7 +10,7 @@ ghost use Rattle.conduct.specs.Session.{state_number};
 use message::Message;
 
 // The SessionOk that is open in Up, by its number.
-#[derive(Drop)]
+#[derive(Clone, Copy)]
 pub enum Awaited {
     Nothing,
     Ok(u32),
@@ -16,7 +18,7 @@ pub enum Awaited {
 
 // A state with its timer. Waiting has the ticks that are left; the others have the ticks since they were entered or, where a SessionOk was sent,
 // since the last one was. Confirming has the number of its SessionOk in front.
-#[derive(Drop)]
+#[derive(Clone, Copy)]
 pub enum State {
     Waiting(u32),
     Connecting,
@@ -43,14 +45,14 @@ impl State {
 }
 
 // What the host pushes.
-#[derive(Drop)]
+#[derive(Clone, Copy)]
 pub enum Pushed {
     Response,
     Advisory,
 }
 
 // An open push: its number, the host's handle, how often it was sent, and the ticks since it was sent last.
-#[derive(Drop)]
+#[derive(Clone, Copy)]
 pub struct Push {
     pub what: Pushed,
     pub number: u32,
@@ -60,14 +62,14 @@ pub struct Push {
 }
 
 // How a SessionOpenResponse with the status RedundantSession counts: like one with an unknown status or, in the old conduct, with Ok.
-#[derive(Drop)]
+#[derive(Clone, Copy)]
 pub enum Conduct {
     New,
     Old,
 }
 
 // What a session is made with.
-#[derive(Drop)]
+#[derive(Clone, Copy)]
 pub struct Site {
     // The ticks from one SessionOk to the next.
     pub interval: u32,
@@ -77,20 +79,20 @@ pub struct Site {
 }
 
 // What an open push is held to: the ticks that each sending has for an answer, and how often a Response is sent again at most.
-#[derive(Drop)]
+#[derive(Clone, Copy)]
 pub struct Terms {
     pub ticks: u32,
     pub resends: u32,
 }
 
-#[derive(Drop)]
+#[derive(Clone, Copy)]
 pub struct Event {
     pub code: u32,
     pub number: u32,
     pub detail: u32,
 }
 
-#[derive(Drop)]
+#[derive(Clone, Copy)]
 pub enum Call {
     Tick,
     Connected,
@@ -104,7 +106,7 @@ pub enum Call {
 }
 
 // What is done with a message, by the state and its kind.
-#[derive(Drop)]
+#[derive(Clone, Copy)]
 pub enum Action {
     OutOfPlace,
     Answer,
@@ -114,7 +116,7 @@ pub enum Action {
 }
 
 // What a call means for every open push.
-#[derive(Drop)]
+#[derive(Clone, Copy)]
 pub enum Sweep {
     Still,
     Older,
@@ -125,7 +127,7 @@ pub enum Sweep {
 }
 
 // What becomes of an open push: it stays, is sent again and stays, or is closed.
-#[derive(Drop)]
+#[derive(Clone, Copy)]
 pub enum Fate {
     Keep(Push),
     Again(Push, Event),
@@ -133,7 +135,7 @@ pub enum Fate {
 }
 
 // What the session sends before it goes: nothing, 7, 19 and 7, or 18, 19 and 7.
-#[derive(Drop)]
+#[derive(Clone, Copy)]
 pub enum Parting {
     Nothing,
     Disconnect,
@@ -142,7 +144,7 @@ pub enum Parting {
 }
 
 // What a call says beside that: nothing, an event of a code and a detail, or the sending of a push that it opens.
-#[derive(Drop)]
+#[derive(Clone, Copy)]
 pub enum Remark {
     Nothing,
     Note(u32, u32),
@@ -150,7 +152,7 @@ pub enum Remark {
 }
 
 // What an accepted call does, before its events have their numbers.
-#[derive(Drop)]
+#[derive(Clone, Copy)]
 pub struct Move {
     pub to: State,
     pub parting: Parting,

@@ -15,7 +15,7 @@ use text::runs;
 const MOST_ATTRIBUTES: usize = 16;
 
 // Where a value stands without its quotation marks.
-#[derive(Drop)]
+#[derive(Clone, Copy)]
 pub enum Span {
     Whole(usize, usize),
     Refused(u32, usize),

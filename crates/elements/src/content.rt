@@ -14,7 +14,7 @@ use scan::{Name, Place, bytes, names};
 use text::{markup, runs};
 
 // A start tag that has been read: where its name stands, after any colon from `local` on, and the place behind it.
-#[derive(Drop)]
+#[derive(Clone, Copy)]
 pub(crate) struct Start {
     pub(crate) begin: usize,
     pub(crate) local: usize,
@@ -23,7 +23,7 @@ pub(crate) struct Start {
     pub(crate) empty: bool,
 }
 
-#[derive(Drop)]
+#[derive(Clone, Copy)]
 pub(crate) enum Started {
     Whole(Start),
     Refused(u32, usize),

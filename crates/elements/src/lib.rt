@@ -1,5 +1,7 @@
 // The restricted XML: elements by recursion, their attributes and end tags, and what stands around the root (document 01, "The restricted XML"). One pass over
 // the message; what it holds on to is a few places.
+#![tactic(auto)]
+
 pub mod attributes;
 pub mod content;
 pub mod document;
@@ -15,7 +17,7 @@ pub const MOST_PART: usize = 64;
 
 // What is held on to of the elements inside another, each by the place where its name begins, 0 for none: how many they are, the first, the first
 // AdvisoryType among them, and the first inside the first of them.
-#[derive(Drop)]
+#[derive(Clone, Copy)]
 pub struct Inside {
     pub children: usize,
     pub first: usize,
@@ -25,7 +27,7 @@ pub struct Inside {
 
 // An element that has been read: where its name begins, where its content stands, the place behind it, and its name's place again if
 // it is an AdvisoryType.
-#[derive(Drop)]
+#[derive(Clone, Copy)]
 pub struct Seen {
     pub begin: usize,
     pub from: usize,
@@ -35,7 +37,7 @@ pub struct Seen {
     pub inside: Inside,
 }
 
-#[derive(Drop)]
+#[derive(Clone, Copy)]
 pub enum Told {
     Whole(Seen),
     Refused(u32, usize),

@@ -1,5 +1,7 @@
 // Cutting a stream of bytes into items that end with a boundary (document 01, "Cutting the stream").
 // specs/Cutting.antt says what a call answers and leaves in the store, specs/Stream.antt what that makes of a whole stream.
+#![tactic(auto)]
+
 mod answers;
 mod cutting;
 mod matching;
@@ -18,7 +20,7 @@ const MOST_BOUNDARY: usize = 16;
 const MOST_COUNT: u32 = 4294967295;
 
 // What a call completed.
-#[derive(Drop)]
+#[derive(Clone, Copy)]
 pub enum Item {
     // The piece was used up first.
     NotYet,
@@ -57,7 +59,7 @@ impl Item {
 }
 
 // What a call answers.
-#[derive(Drop)]
+#[derive(Clone, Copy)]
 pub struct Answer {
     // 0, or the number of the refusal: 1, 2 or 26.
     pub refusal: u32,
@@ -70,7 +72,7 @@ pub struct Answer {
 }
 
 // How a piece is cut: whether an item ends in it, how many of its bytes are taken, and how much of the boundary is matched after them.
-#[derive(Drop)]
+#[derive(Clone, Copy)]
 pub(crate) struct Cut {
     pub(crate) ended: bool,
     pub(crate) taken: usize,

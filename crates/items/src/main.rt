@@ -2,6 +2,8 @@
 // specs/Listing.antt says what is written for a whole input. What a call of the framing gives to print, and where the boundary ends, are
 // proved here; reading and writing have no contract. A listing that a failed read or write cuts off gets no last line, so that it does not
 // look whole.
+#![tactic(auto)]
+
 mod fields;
 mod lines;
 mod start;
@@ -14,14 +16,14 @@ use libc::{STDIN_FILENO, STDOUT_FILENO};
 use turns::Held;
 
 // The start of the input: how many bytes came, and whether a read failed.
-#[derive(Drop)]
+#[derive(Clone, Copy)]
 struct Begun {
     length: usize,
     failed: bool,
 }
 
 // How far the listing came: whether there may be more to read, whether a read or a write failed, and what is held.
-#[derive(Drop)]
+#[derive(Clone, Copy)]
 struct Step {
     more: bool,
     failed: bool,
@@ -29,7 +31,7 @@ struct Step {
 }
 
 // A turn whose line was written, or not.
-#[derive(Drop)]
+#[derive(Clone, Copy)]
 struct Listed {
     taken: usize,
     failed: bool,

@@ -9,7 +9,7 @@ use crate::lines;
 use framing::Item;
 
 // What is held between the calls: the framing's two numbers, and the number of the next line.
-#[derive(Drop)]
+#[derive(Clone, Copy)]
 pub(crate) struct Held {
     pub(crate) gathered: u32,
     pub(crate) matched: u32,
@@ -17,7 +17,7 @@ pub(crate) struct Held {
 }
 
 // What a turn answers: the bytes of the piece that were taken, the length of the line, and what is held.
-#[derive(Drop)]
+#[derive(Clone, Copy)]
 pub(crate) struct Turn {
     pub(crate) taken: usize,
     pub(crate) length: usize,

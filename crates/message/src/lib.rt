@@ -1,10 +1,12 @@
 // What a message is: the types of an answer, which the reader gives and everybody else takes. `specs/` has the definitions of document 01's "The restricted
 // XML" and "The seven messages", and `proofs/` the laws about them.
+#![tactic(auto)]
+
 ghost use Rattle.std.specs.Prelude.{◌≡◌};
 ghost use Rattle.message.specs.Messages.{kind_number};
 ghost use Rattle.message.specs.Values.{number_flag, number_named, status_number, advice_number};
 
-#[derive(Drop)]
+#[derive(Clone, Copy)]
 pub enum Kind {
     SessionOpenRequest,
     SessionOpenResponse,
@@ -33,7 +35,7 @@ impl Kind {
 }
 
 // What a value that should be a number names.
-#[derive(Drop)]
+#[derive(Clone, Copy)]
 pub enum Number {
     Nothing,
     Names(u32),
@@ -60,7 +62,7 @@ impl Number {
     }
 }
 
-#[derive(Drop)]
+#[derive(Clone, Copy)]
 pub enum Status {
     Ok,
     RedundantSession,
@@ -79,7 +81,7 @@ impl Status {
     }
 }
 
-#[derive(Drop)]
+#[derive(Clone, Copy)]
 pub enum Advice {
     UnreadableMessage,
     Other,
@@ -98,7 +100,7 @@ impl Advice {
 
 // A value: whether it is there, where it stands in the message, and what it means. A value that is not there, or that the kind does
 // not have, is 0 and 0.
-#[derive(Drop)]
+#[derive(Clone, Copy)]
 pub struct NumberValue {
     pub there: bool,
     pub place: usize,
@@ -106,7 +108,7 @@ pub struct NumberValue {
     pub number: Number,
 }
 
-#[derive(Drop)]
+#[derive(Clone, Copy)]
 pub struct StatusValue {
     pub there: bool,
     pub place: usize,
@@ -114,7 +116,7 @@ pub struct StatusValue {
     pub status: Status,
 }
 
-#[derive(Drop)]
+#[derive(Clone, Copy)]
 pub struct TypeValue {
     pub there: bool,
     pub place: usize,
@@ -122,7 +124,7 @@ pub struct TypeValue {
     pub advice: Advice,
 }
 
-#[derive(Drop)]
+#[derive(Clone, Copy)]
 pub struct Message {
     pub kind: Kind,
     pub status: StatusValue,
@@ -132,7 +134,7 @@ pub struct Message {
     pub advisory_type: TypeValue,
 }
 
-#[derive(Drop)]
+#[derive(Clone, Copy)]
 pub enum Answer {
     Read(Message),
     // The number of the refusal, 8 to 14, and its place.

@@ -1,4 +1,6 @@
 // Rounds of one call of the session with 32 pushes open, for bench/run to time: standard input says `tick N` or `ok N`. It prints how many pushes are open in the end.
+#![tactic(auto)]
+
 use conduct::{Awaited, State};
 use libc::{STDIN_FILENO, STDOUT_FILENO};
 use message::{Advice, Kind, Message, Number, NumberValue, Status, StatusValue, TypeValue};

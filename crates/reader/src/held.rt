@@ -10,7 +10,7 @@ ghost use Rattle.message.specs.Messages.{message_at, answer_said};
 use crate::messages;
 use message::Answer;
 
-#[derive(Drop)]
+#[derive(Clone, Copy)]
 pub struct Reader<'a> {
     src: &'a [u8],
     at: usize,

@@ -7,7 +7,7 @@ ghost use Rattle.reader.specs.Roots.{kind_said};
 use elements::noted;
 use message::Kind;
 
-#[derive(Drop)]
+#[derive(Clone, Copy)]
 pub(crate) enum Root {
     Of(Kind),
     Unknown,

@@ -1,4 +1,6 @@
 // The reader: a message of restricted XML, told by its kind and its values (document 01, "The restricted XML" and "The seven messages").
+#![tactic(auto)]
+
 pub mod held;
 mod kinds;
 mod messages;

@@ -1,6 +1,8 @@
 // The program `replay`: one provider session over a script on standard input (specs/Replay.antt says what is printed for a whole script).
 // What is printed for a call and a line, and what a line does to the run, are proved; reading and writing have no contract. What a failed
 // read or write cuts off gets no last line, so that it does not look whole.
+#![tactic(auto)]
+
 mod lines;
 mod runs;
 mod script;
@@ -25,21 +27,21 @@ const PLACES: usize = 40;
 const MESSAGE_AT: usize = 8;
 
 // What is kept from one piece of the script to the next: the bytes of a line that wait in the store, and the run.
-#[derive(Drop)]
+#[derive(Clone, Copy)]
 struct Held {
     gathered: u32,
     run: Run,
 }
 
 // What one item of a piece took, and what is held then.
-#[derive(Drop)]
+#[derive(Clone, Copy)]
 struct Turn {
     taken: usize,
     held: Held,
 }
 
 // How a read went: whether there was something to read, whether it failed, and what is held after it.
-#[derive(Drop)]
+#[derive(Clone, Copy)]
 struct Step {
     more: bool,
     failed: bool,

@@ -7,14 +7,14 @@ use conduct::Site;
 use session::{Session, Told};
 
 // Settings come first; then the session runs, or its making was refused.
-#[derive(Drop)]
+#[derive(Clone, Copy)]
 pub(crate) enum Phase {
     Settling,
     Running,
     Refused(u32),
 }
 
-#[derive(Drop)]
+#[derive(Clone, Copy)]
 pub(crate) struct Run {
     pub(crate) phase: Phase,
     pub(crate) site: Site,

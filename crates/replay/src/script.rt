@@ -7,7 +7,7 @@ use conduct::{Call, Conduct, Pushed};
 use message::Number;
 
 // One of the things that a session is made with.
-#[derive(Drop)]
+#[derive(Clone, Copy)]
 pub(crate) enum Setting {
     Interval(u32),
     Conduct(Conduct),
@@ -15,7 +15,7 @@ pub(crate) enum Setting {
 }
 
 // What a line stands for.
-#[derive(Drop)]
+#[derive(Clone, Copy)]
 pub(crate) enum Line {
     // An empty one.
     Nothing,

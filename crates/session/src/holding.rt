@@ -7,7 +7,7 @@ use crate::Session;
 use conduct::{Awaited, State};
 
 // The first `count` of the numbers.
-#[derive(Drop)]
+#[derive(Clone, Copy)]
 pub(crate) struct Holding {
     pub(crate) numbers: [u32; 33],
     pub(crate) count: usize,

@@ -1,6 +1,8 @@
 // The provider's session (document 01, "The session"): each call takes a session by value and hands back the one that follows it. What the calls do is said in
 // crates/conduct; specs/ says how a session lies in the record below. The record is public, so that a host can keep it where it likes: whatever is in it, every
 // call has an answer.
+#![tactic(auto)]
+
 mod calls;
 mod consistency;
 mod holding;
@@ -21,13 +23,13 @@ use message::{Answer, Message};
 use rules::sound;
 
 // The open pushes, in order of acceptance: the first `count` rows. The other rows are blank.
-#[derive(Drop)]
+#[derive(Clone, Copy)]
 pub struct Table {
     pub rows: [Push; 32],
     pub count: usize,
 }
 
-#[derive(Drop)]
+#[derive(Clone, Copy)]
 pub struct Session {
     pub site: Site,
     pub state: State,
@@ -37,14 +39,14 @@ pub struct Session {
 }
 
 // The events of a call: the first `count` places. The other places are blank.
-#[derive(Drop)]
+#[derive(Clone, Copy)]
 pub struct Events {
     pub list: [Event; 40],
     pub count: usize,
 }
 
 // What a call answers: its refusal or 0, the session that follows it, and its events.
-#[derive(Drop)]
+#[derive(Clone, Copy)]
 pub struct Told {
     pub refusal: u32,
     pub next: Session,
@@ -52,7 +54,7 @@ pub struct Told {
 }
 
 // What a call answers that writes its events to a lent list: how many it wrote.
-#[derive(Drop)]
+#[derive(Clone, Copy)]
 pub struct Said {
     pub refusal: u32,
     pub next: Session,
@@ -60,7 +62,7 @@ pub struct Said {
 }
 
 // What making a session answers: refusal 4, 18 or 0, and the session.
-#[derive(Drop)]
+#[derive(Clone, Copy)]
 pub struct Made {
     pub refusal: u32,
     pub session: Session,

@@ -12,28 +12,28 @@ use conduct::{Event, Fate, Move, Parting, Push, Pushed, Remark, Sweep, Terms, co
 use rules::{numbers, pushes};
 
 // The events so far, and the last number taken.
-#[derive(Drop)]
+#[derive(Clone, Copy)]
 pub(crate) struct Written {
     pub(crate) events: Events,
     pub(crate) last: u32,
 }
 
 // The pushes that a sweep has left so far, and the events so far.
-#[derive(Drop)]
+#[derive(Clone, Copy)]
 pub(crate) struct Swept {
     pub(crate) table: Table,
     pub(crate) events: Events,
 }
 
 // The pushes, the events and the last number taken when all is said.
-#[derive(Drop)]
+#[derive(Clone, Copy)]
 pub(crate) struct Remarked {
     pub(crate) table: Table,
     pub(crate) written: Written,
 }
 
 // An accepted call's session and events.
-#[derive(Drop)]
+#[derive(Clone, Copy)]
 pub(crate) struct Performed {
     pub(crate) next: Session,
     pub(crate) events: Events,

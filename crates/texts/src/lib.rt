@@ -1,5 +1,7 @@
 // Plain text for the programs: fields of a line, written into lent bytes one behind the other, and the words and numbers of a line that is
 // read.
+#![tactic(auto)]
+
 ghost use Rattle.std.specs.Prelude.{◌≡◌, ◌+◌, ◌≤◌, length, take, drop};
 ghost use Rattle.std.proofs.Math.Seq.{paste};
 ghost use Rattle.laws.specs.Bytes.{same_bytes};
