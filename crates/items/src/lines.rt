@@ -73,7 +73,7 @@ fn refused_line(out: &mut [u8], number: u64, bytes: usize, refusal: u32, place: 
     put_refusal(out, after_kind, refusal as u64, place as u64)
 }
 
-pub(crate) fn too_long_lem(out: &mut [u8], number: u64) -> usize
+pub(crate) fn too_long(out: &mut [u8], number: u64) -> usize
     requires { 128 ≤ length out.old }
     ensures prefix_len { IsPrefixLen result out.new }
     ensures written { take result out.new ≡ too_long_line number }

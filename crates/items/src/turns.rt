@@ -48,7 +48,7 @@ fn item_line(out: &mut [u8], number: u64, item: Item, store: &[u8]) -> usize
             let length = length as usize;
             lines::message(out, number, &store[..length])
         }
-        Item::TooLong => lines::too_long_lem(out, number),
+        Item::TooLong => lines::too_long(out, number),
     }
 }
 

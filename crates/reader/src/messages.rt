@@ -49,7 +49,7 @@ fn length(from: usize, to: usize) -> usize
     if from < to { to - from } else { 0 }
 }
 
-fn no_number_lem() -> NumberValue
+fn no_number() -> NumberValue
     ensures { result ≡ no_number }
 {
     NumberValue {
@@ -93,7 +93,7 @@ fn number_value(s: &[u8], table: &[u8; 256], value: Span) -> NumberValue
             length: length(from, to),
             number: meaning::number(s, table, from, to),
         },
-        Span::Refused(_, _) => no_number_lem(),
+        Span::Refused(_, _) => no_number(),
     }
 }
 
@@ -165,7 +165,7 @@ fn named(s: &[u8], table: &[u8; 256], begin: usize, word: &[u8]) -> Place
 }
 
 // The only child element, if it is called `word`: the place behind its name.
-fn only_child_lem(s: &[u8], table: &[u8; 256], inside: Inside, word: &[u8]) -> Place
+fn only_child(s: &[u8], table: &[u8; 256], inside: Inside, word: &[u8]) -> Place
     ensures { place_said result ≡ only_called (class_in table.now) s.now word.now inside }
 {
     if inside.children == 1 {
@@ -195,9 +195,9 @@ fn session_open_response(s: &[u8], table: &[u8; 256], root: Seen) -> Answer
     Answer::Read(Message {
         kind: Kind::SessionOpenResponse,
         status: status_value(s, table, value),
-        id: no_number_lem(),
-        in_response_to: no_number_lem(),
-        in_relation_to: no_number_lem(),
+        id: no_number(),
+        in_response_to: no_number(),
+        in_relation_to: no_number(),
         advisory_type: no_type(),
     })
 }
@@ -211,7 +211,7 @@ fn numbers(kind: Kind, id: NumberValue, in_response_to: NumberValue) -> Answer
         status: no_status(),
         id,
         in_response_to,
-        in_relation_to: no_number_lem(),
+        in_relation_to: no_number(),
         advisory_type: no_type(),
     })
 }
@@ -223,7 +223,7 @@ fn session_ok(s: &[u8], table: &[u8; 256], root: Seen) -> Answer
     if !is_there(value) {
         return Answer::Refused(13, 0);
     }
-    numbers(Kind::SessionOk, number_value(s, table, value), no_number_lem())
+    numbers(Kind::SessionOk, number_value(s, table, value), no_number())
 }
 
 fn ok(s: &[u8], table: &[u8; 256], root: Seen) -> Answer
@@ -233,13 +233,13 @@ fn ok(s: &[u8], table: &[u8; 256], root: Seen) -> Answer
     if !is_there(value) {
         return Answer::Refused(13, 0);
     }
-    numbers(Kind::Ok, no_number_lem(), number_value(s, table, value))
+    numbers(Kind::Ok, no_number(), number_value(s, table, value))
 }
 
 fn advisory(s: &[u8], table: &[u8; 256], root: Seen) -> Answer
     ensures { Tells (class_in table.now) s.now root Advisory result }
 {
-    let child = only_child_lem(s, table, root.inside, b"Advisory");
+    let child = only_child(s, table, root.inside, b"Advisory");
     let e = match child {
         Place::Whole(e) => e,
         Place::Refused(number, place) => return Answer::Refused(number, place),
@@ -252,8 +252,8 @@ fn advisory(s: &[u8], table: &[u8; 256], root: Seen) -> Answer
     Answer::Read(Message {
         kind: Kind::Advisory,
         status: no_status(),
-        id: no_number_lem(),
-        in_response_to: no_number_lem(),
+        id: no_number(),
+        in_response_to: no_number(),
         in_relation_to: number_value(s, table, value),
         advisory_type: type_value(s, table, typed),
     })
@@ -262,7 +262,7 @@ fn advisory(s: &[u8], table: &[u8; 256], root: Seen) -> Answer
 fn request(s: &[u8], table: &[u8; 256], root: Seen) -> Answer
     ensures { Tells (class_in table.now) s.now root Request result }
 {
-    let child = only_child_lem(s, table, root.inside, b"QueryRequest");
+    let child = only_child(s, table, root.inside, b"QueryRequest");
     let e = match child {
         Place::Whole(e) => e,
         Place::Refused(number, place) => return Answer::Refused(number, place),
@@ -271,19 +271,19 @@ fn request(s: &[u8], table: &[u8; 256], root: Seen) -> Answer
     if !is_there(value) {
         return Answer::Refused(13, 0);
     }
-    numbers(Kind::Request, number_value(s, table, value), no_number_lem())
+    numbers(Kind::Request, number_value(s, table, value), no_number())
 }
 
 fn response(s: &[u8], table: &[u8; 256], root: Seen) -> Answer
     ensures { Tells (class_in table.now) s.now root Response result }
 {
-    let child = only_child_lem(s, table, root.inside, b"QueryResponse");
+    let child = only_child(s, table, root.inside, b"QueryResponse");
     let e = match child {
         Place::Whole(e) => e,
         Place::Refused(number, place) => return Answer::Refused(number, place),
     };
     let value = attribute(s, table, e, b"inResponseTo");
-    numbers(Kind::Response, no_number_lem(), number_value(s, table, value))
+    numbers(Kind::Response, no_number(), number_value(s, table, value))
 }
 
 // The message of the root's kind.
@@ -291,7 +291,7 @@ fn of_kind(s: &[u8], table: &[u8; 256], root: Seen, kind: Kind) -> Answer
     ensures { Tells (class_in table.now) s.now root kind result }
 {
     match kind {
-        Kind::SessionOpenRequest => numbers(kind, no_number_lem(), no_number_lem()),
+        Kind::SessionOpenRequest => numbers(kind, no_number(), no_number()),
         Kind::SessionOpenResponse => session_open_response(s, table, root),
         Kind::SessionOk => session_ok(s, table, root),
         Kind::Ok => ok(s, table, root),

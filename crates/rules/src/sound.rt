@@ -4,7 +4,7 @@ ghost use Rattle.conduct.specs.Session.{is_up, allowed_interval, allowed_resends
 ghost use Rattle.conduct.specs.Sound.{sound_state};
 ghost use Rattle.conduct.specs.declared.State.TheVariants as states;
 
-use crate::states::is_up_lem;
+use crate::states::is_up;
 use conduct::{Awaited, State};
 
 // The most that a site may have.
@@ -60,7 +60,7 @@ pub fn is_state_sound(interval: u32, state: State) -> bool
 pub fn is_count_sound(state: State, count: usize) -> bool
     ensures { result ≡ (is_up state || count == 0) }
 {
-    if is_up_lem(state) {
+    if is_up(state) {
         return true;
     }
     count == 0

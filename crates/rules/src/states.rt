@@ -45,7 +45,7 @@ pub fn is_stopped(state: State) -> bool
     }
 }
 
-pub(crate) fn is_up_lem(state: State) -> bool
+pub(crate) fn is_up(state: State) -> bool
     ensures { result ≡ is_up state }
 {
     match state {
@@ -94,7 +94,7 @@ pub fn fits(state: State, call: Call) -> bool
         Call::Connected => is_connecting(state),
         Call::Lost => fits_lost(state),
         Call::Stop => !is_stopped(state),
-        Call::Push(_, _) => is_up_lem(state),
+        Call::Push(_, _) => is_up(state),
         Call::Heard(_) => is_linked(state),
         Call::Unreadable(refusal) => fits_unreadable(state, refusal),
     }

@@ -1,7 +1,7 @@
 -- `items::lines::too_long_lem` meets its contract: its fields stand one behind the other. Assumes nothing.
 use borrow.Author.Rules.{rules}
-use Rattle.items.proofs.lines.too_long_lem.Statement.{statement}
-use Rattle.items.proofs.lines.too_long_lem.Tie as tie
+use Rattle.items.proofs.lines.too_long.Statement.{statement}
+use Rattle.items.proofs.lines.too_long.Tie as tie
 use mathlib.Core.List.{append_assoc}
 use Rattle.items.specs.Lines.{item_line, too_long_line}
 

@@ -1,7 +1,7 @@
 -- `reader::messages::only_child_lem` meets its contract: where there is one child alone, its name is looked at. Assumes nothing.
 use borrow.Author.Rules.{rules}
-use Rattle.reader.proofs.messages.only_child_lem.Statement.{statement}
-use Rattle.reader.proofs.messages.only_child_lem.Tie as tie
+use Rattle.reader.proofs.messages.only_child.Statement.{statement}
+use Rattle.reader.proofs.messages.only_child.Tie as tie
 use mathlib.Core.Path.{◌∙◌}
 use borrow.Author.Tests.{eq-eqb, ne_eqb}
 use Rattle.message.proofs.Laws.{cond_true, cond_false}
