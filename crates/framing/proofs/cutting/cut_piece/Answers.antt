@@ -1,0 +1,33 @@
+-- `framing::cutting::cut_piece` meets its contract. Where a match is held, the item ends within the piece's first bytes, or the match is forgotten after them.
+-- Assumes nothing.
+use Prim.Native.Nat.{◌-◌}
+use mathlib.Core.Logic.{⊎_elim}
+use mathlib.Core.Path.{sym, ap, ◌∙◌}
+use borrow.Author.Rules.{rules}
+use native.Mathlib.Omega.{arith}
+use lib.ListN.{length, length-take}
+use Rattle.framing.specs.Cutting.{cut_of}
+use Rattle.framing.proofs.Pieces.{seam_ended, seam_free, seam_passed}
+use Rattle.framing.proofs.cutting.cut_piece.Goals as goal
+
+pub slice_bounds-scan-end : goal.slice_bounds-scan-end
+slice_bounds-scan-end c = simp length-take (omega arith)
+
+pub returns-then-cut : goal.returns-then-cut
+returns-then-cut c =
+    let b = c.args.boundary.now in
+    let p = c.args.piece.now in
+    let cut = c.scan-cut in
+    cut.ensures ∙ seam_ended b p c.args.held (omega arith) (length b - 1) (omega arith) (rw cut.ensures at c.if-cut.true)
+
+pub returns : goal.returns
+returns c =
+    let b = c.args.boundary.now in
+    let p = c.args.piece.now in
+    let m = c.args.held in
+    ⊎_elim
+    (λ w.
+    c.cut_free.ensures
+    ∙ seam_passed b p m (omega arith) (omega arith) (seam_free b p m (omega arith) (length b - 1) (omega arith) (rw w.2.ensures at w.3.left)))
+    (λ w. c.cut_free.ensures ∙ ap (cut_of b p) (sym w.left))
+    c.if-held-ne0.branch

@@ -1,0 +1,15 @@
+-- `framing::cutting::tail` meets its contract. The invariant of its loop: no more than `tried` first bytes of the boundary end the piece. Assumes nothing.
+use Prim.Native.Nat.{◌<◌}
+use mathlib.Core.Path.{sym, ◌∙◌}
+use borrow.Author.Rules.{rules}
+use native.Mathlib.Omega.{arith}
+use lib.ListN.{length}
+use Rattle.framing.proofs.Borders.{NoneAbove, above_next, above_found, above_none}
+use Rattle.framing.proofs.Pieces.{tail_stands}
+use Rattle.framing.proofs.cutting.tail.Given as goal
+
+abbrev pub invariant-loop-tried : goal.invariant-loop-tried
+invariant-loop-tried l = (l.tried < length l.boundary) × NoneAbove (length l.boundary) l.boundary l.piece l.tried
+
+abbrev pub decreases-loop-tried : goal.decreases-loop-tried
+decreases-loop-tried l = l.tried

@@ -1,0 +1,13 @@
+-- `framing::store::lay` meets its contract: its loop copies (`laws`, `Copies`).
+-- Assumes nothing.
+use Prim.Native.Nat.{◌-◌}
+use borrow.Author.Rules.{rules}
+use native.Mathlib.Omega.{arith}
+use Rattle.laws.proofs.Copies.{Copied, copied_first, copied_next, copied_all}
+use Rattle.framing.proofs.store.lay.Given as goal
+
+abbrev pub invariant-loop-i : goal.invariant-loop-i
+invariant-loop-i l = Copied l.initial.store l.at l.bytes l.count l.i l.store
+
+abbrev pub decreases-loop-i : goal.decreases-loop-i
+decreases-loop-i l = l.count - l.i

@@ -1,0 +1,13 @@
+-- `items::list_piece` is safe and ends: what was taken stays within the piece, the store keeps its length, and the turns fall. Assumes nothing.
+use borrow.Author.Rules.{rules}
+use Prim.Native.Nat.{◌≤◌}
+use mathlib.Core.Path.{◌≡◌}
+use native.Mathlib.Omega.{arith}
+use lib.ListN.{length, length-take, length-drop}
+use Rattle.items.proofs.list_piece.Given as goal
+
+abbrev pub invariant-loop-turns : goal.invariant-loop-turns
+invariant-loop-turns l = (l.at ≤ length l.piece) × (length l.store ≡ length l.initial.store)
+
+abbrev pub decreases-loop-turns : goal.decreases-loop-turns
+decreases-loop-turns l = l.turns

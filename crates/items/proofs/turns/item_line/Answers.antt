@@ -1,0 +1,33 @@
+-- `items::turns::item_line` meets its contract, item by item. Assumes nothing.
+use borrow.Author.Rules.{rules}
+use mathlib.Core.Path.{refl, sym, ap, ◌∙◌}
+use Prim.Native.Nat.{zero-le}
+use Rattle.framing.specs.declared.Item.{Item}
+use Rattle.io.proofs.Counting.{length-take_of_le}
+use Rattle.items.specs.Lines.{line_after}
+use Rattle.items.proofs.turns.item_line.Goals as goal
+
+pub slice_bounds-message-end : goal.slice_bounds-message-end
+slice_bounds-message-end c = length-take_of_le _ _ (rw c.in-Message.is at c.requires.1)
+
+pub returns-in-NotYet : goal.returns-in-NotYet
+unfolding line_after
+returns-in-NotYet c = ((zero-le, refl), sym (ap (λ (i : Item). line_after c.args.number i c.args.store.now) c.in-NotYet.is))
+
+pub returns-in-Empty : goal.returns-in-Empty
+unfolding line_after
+returns-in-Empty c = ((zero-le, refl), sym (ap (λ (i : Item). line_after c.args.number i c.args.store.now) c.in-Empty.is))
+
+pub returns-in-Message : goal.returns-in-Message
+unfolding line_after
+returns-in-Message c = (
+  c.message.ensures.0,
+  c.message.ensures.1 ∙ sym (ap (λ (i : Item). line_after c.args.number i c.args.store.now) c.in-Message.is),
+)
+
+pub returns-in-TooLong : goal.returns-in-TooLong
+unfolding line_after
+returns-in-TooLong c = (
+  c.too_long.ensures.0,
+  c.too_long.ensures.1 ∙ sym (ap (λ (i : Item). line_after c.args.number i c.args.store.now) c.in-TooLong.is),
+)

@@ -1,0 +1,30 @@
+-- `line::gathering::ali_gather` meets its contract: each `return` is one of `Cases`.
+-- Assumes nothing.
+use borrow.Author.Rules.{rules}
+use borrow.Author.Tests.{lt-ltb, le-ltb}
+use mathlib.Core.Path.{◌∙◌}
+use Rattle.line.proofs.Cases.{list_short, call_refused, call_answered}
+use Rattle.line.proofs.gathering.ali_gather.Goals as goal
+
+pub returns-then-answer-lt-PLACES : goal.returns-then-answer-lt-PLACES
+returns-then-answer-lt-PLACES c =
+    let a = c.args in
+    list_short a.boundary.now a.store.now a.piece.now a.gathered a.matched a.answer.now (lt-ltb _ _ c.if-answer-lt-PLACES.true)
+
+pub returns-then-refusal-ne0 : goal.returns-then-refusal-ne0
+returns-then-refusal-ne0 c =
+    let a = c.args in
+    let g = c.gather-said in
+    call_refused a.boundary.now a.store.now a.piece.now a.gathered a.matched a.answer.now
+    (le-ltb _ _ c.if-answer-lt-PLACES.false)
+    g.result g.ensures.0 g.new.1.0 g.ensures.1 c.if-refusal-ne0.true
+
+pub returns : goal.returns
+returns c =
+    let g = c.gather-said in
+    let a = c.args in
+    let said =
+    call_answered a.boundary.now a.store.now a.piece.now a.gathered a.matched a.answer.now
+    (le-ltb _ _ c.if-answer-lt-PLACES.false)
+    g.result g.ensures.0 g.new.1.0 g.ensures.1 c.if-refusal-ne0.false in
+    (said.0, (said.1.0, rw (c.number.ensures, c.length.ensures) at c.write.ensures ∙ said.1.1))

@@ -1,0 +1,25 @@
+-- `line::reading::ali_read` meets its contract: each `return` is one of `ReadCases`. Assumes nothing.
+use borrow.Author.Rules.{rules}
+use mathlib.Core.Path.{sym, ap, ◌∙◌}
+use borrow.Author.Tests.{lt-ltb, le-ltb}
+use Rattle.message.specs.Messages.{answer_said}
+use Rattle.line.specs.Read.{read_numbers}
+use Rattle.line.proofs.ReadCases.{read_short, read_answered}
+use Rattle.line.proofs.reading.ali_read.Goals as goal
+
+pub returns-then-answer-lt-PLACES : goal.returns-then-answer-lt-PLACES
+returns-then-answer-lt-PLACES c = let a = c.args in read_short a.message.now a.answer.now (lt-ltb _ _ c.if-answer-lt-PLACES.true)
+
+pub returns-in-Read : goal.returns-in-Read
+unfolding read_numbers
+returns-in-Read c =
+    let a = c.args in
+    read_answered a.message.now a.answer.now _ (le-ltb _ _ c.if-answer-lt-PLACES.false) (sym (ap answer_said c.in-Read.is) ∙ c.read-said.ensures)
+    c.write_message.ensures
+
+pub returns-in-Refused : goal.returns-in-Refused
+unfolding read_numbers
+returns-in-Refused c =
+    let a = c.args in
+    read_answered a.message.now a.answer.now _ (le-ltb _ _ c.if-answer-lt-PLACES.false) (sym (ap answer_said c.in-Refused.is) ∙ c.read-said.ensures)
+    c.write_refusal.ensures

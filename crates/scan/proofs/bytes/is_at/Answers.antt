@@ -1,0 +1,11 @@
+-- `scan::bytes::is_at` meets its contract. Assumes nothing.
+use borrow.Author.Rules.{rules}
+use mathlib.Core.Path.{sym}
+use Rattle.message.proofs.Laws.{has_in, has_out}
+use Rattle.scan.proofs.bytes.is_at.Goals as goal
+
+pub returns-then-at-s : goal.returns-then-at-s
+returns-then-at-s c = sym (has_in _ _ _ c.if-at-s.true)
+
+pub returns-else-at-s : goal.returns-else-at-s
+returns-else-at-s c = sym (has_out _ _ _ c.if-at-s.false)

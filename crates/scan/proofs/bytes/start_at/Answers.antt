@@ -1,0 +1,13 @@
+-- `scan::bytes::start_at` meets its contract. Assumes nothing.
+use borrow.Author.Rules.{rules}
+use mathlib.Core.Path.{sym, ap, ◌∙◌}
+use Prim.Native.Nat.{ℕ}
+use lib.Dec.{eqb}
+use Rattle.message.proofs.Laws.{has_in, has_out}
+use Rattle.scan.proofs.bytes.start_at.Goals as goal
+
+pub returns-then-at-s : goal.returns-then-at-s
+returns-then-at-s c = ap (λ (k : ℕ). eqb k 5) c.class.ensures ∙ sym (has_in _ _ _ c.if-at-s.true)
+
+pub returns-else-at-s : goal.returns-else-at-s
+returns-else-at-s c = sym (has_out _ _ _ c.if-at-s.false)

@@ -1,0 +1,8 @@
+-- `session::Table::add` meets its contract, by the law on a store behind the list. Assumes nothing.
+use native.Mathlib.Omega.{arith}
+use borrow.Author.Rules.{rules}
+use Rattle.session.proofs.Rows.{packed_count, table_more}
+use Rattle.session.proofs.Table.add.Goals as goal
+
+pub returns : goal.returns
+returns c = table_more _ _ _ c.requires.0.exact (omega (arith, packed_count _ c.requires.0))

@@ -1,0 +1,31 @@
+-- `text::runs::bracket` meets its contract: `]]>` is refused where both bytes behind the `]` stand, and on any other way one of them does not. Assumes nothing.
+use borrow.Author.Rules.{rules}
+use mathlib.Core.Path.{sym, ◌∙◌}
+use mathlib.Core.Logic.{⊎_elim}
+use native.Mathlib.Omega.{arith}
+use Rattle.message.specs.Text.{bracket_at}
+use Rattle.message.proofs.Laws.{cond_true, cond_false, and_true, and_false, has_lt}
+use Rattle.text.proofs.runs.bracket.Goals as goal
+
+pub overflow_add-at : goal.overflow_add-at
+overflow_add-at c = omega (arith, has_lt _ _ _ c.requires)
+
+pub overflow_add-at-then-is_at : goal.overflow_add-at-then-is_at
+overflow_add-at-then-is_at c = omega (arith, has_lt _ _ _ (sym c.is_at.ensures ∙ c.if-is_at.true))
+
+pub overflow_add-result : goal.overflow_add-result
+overflow_add-result c = omega (arith, has_lt _ _ _ (sym c.is_at-then-is_at.ensures ∙ c.if-is_at-2.true))
+
+pub returns-then-is_at-2 : goal.returns-then-is_at-2
+unfolding bracket_at
+returns-then-is_at-2 c = cond_true _ (sym (and_true _ (sym c.is_at.ensures ∙ c.if-is_at.true)) ∙ sym c.is_at-then-is_at.ensures ∙ c.if-is_at-2.true)
+
+pub overflow_add-result-2 : goal.overflow_add-result-2
+overflow_add-result-2 c = omega (arith, has_lt _ _ _ c.requires)
+
+pub returns : goal.returns
+unfolding bracket_at
+returns c = cond_false _ (⊎_elim
+    (λ w. sym (and_true _ (sym c.is_at.ensures ∙ w.0.taken)) ∙ sym w.1.ensures ∙ w.2.left)
+    (λ w. sym (and_false _ (sym c.is_at.ensures ∙ w.left)))
+    c.if-is_at.branch)

@@ -1,0 +1,20 @@
+-- `text::runs::text` meets its contract: behind the plain text at each place that the loop comes to, what is left to read gives what was asked for at the start. Assumes nothing.
+use borrow.Author.Rules.{rules}
+use Prim.Native.Nat.{◌-◌}
+use mathlib.Core.Path.{refl, sym, subst⁻¹, ◌∙◌}
+use native.Mathlib.Omega.{arith}
+use lib.ListN.{length}
+use Rattle.message.specs.Class.{class_in, is_plain}
+use Rattle.message.specs.Reading.{ends}
+use Rattle.message.specs.Text.{text_at}
+use Rattle.message.proofs.Laws.{went, cond_true, cond_false, ends_after}
+use Rattle.scan.proofs.Said.{place_is, handed}
+use Rattle.message.proofs.Progress.{beyond_plain_on}
+use Rattle.message.proofs.Loops.{Left, left_first, left_on, left_done, texts}
+use Rattle.text.proofs.runs.text.Given as goal
+
+abbrev pub invariant-loop-at : goal.invariant-loop-at
+invariant-loop-at l = Left (texts (class_in l.table) l.s) (text_at (class_in l.table) (length l.s) l.s l.at) (ends (is_plain (class_in l.table)) l.s l.i)
+
+abbrev pub decreases-loop-at : goal.decreases-loop-at
+decreases-loop-at l = length l.s - l.i

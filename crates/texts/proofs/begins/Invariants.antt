@@ -1,0 +1,15 @@
+-- `texts::begins` meets its contract: what the loop has not yet compared is the same exactly if all is. Assumes nothing.
+use Prim.Native.Nat.{◌≤◌, ◌-◌}
+use mathlib.Core.Path.{◌≡◌, refl, ◌∙◌}
+use native.Mathlib.Omega.{arith}
+use lib.ListN.{length, take, drop}
+use Rattle.laws.specs.Bytes.{same_bytes}
+use Rattle.texts.proofs.Beginnings.{too_short_lem, begins_on, begins_differs, begins_all}
+use Rattle.texts.proofs.begins.Given as goal
+
+abbrev pub invariant-loop-i : goal.invariant-loop-i
+invariant-loop-i l =
+    (l.i ≤ length l.word) × (same_bytes (drop l.i (take (length l.word) l.text)) (drop l.i l.word) ≡ same_bytes (take (length l.word) l.text) l.word)
+
+abbrev pub decreases-loop-i : goal.decreases-loop-i
+decreases-loop-i l = length l.word - l.i
