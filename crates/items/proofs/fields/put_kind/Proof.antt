@@ -1,0 +1,150 @@
+-- `items::fields::put_kind` meets its contract: each case puts the name of its kind. Assumes nothing.
+use borrow.Author.Rules.{rules}
+use Rattle.items.proofs.fields.put_kind.Statement.{statement}
+use Rattle.items.proofs.fields.put_kind.Tie as tie
+use native.Mathlib.Omega.{arith}
+
+enum_told : tie.Need-enum-told
+enum_told c = search rules
+
+slice-aggregate-put : tie.Need-slice-aggregate-put
+slice-aggregate-put c = search rules
+
+put-requires : tie.Need-put-requires
+put-requires c κs = search rules
+
+enum-told-2 : tie.Need-enum-told-2
+enum-told-2 c = search rules
+
+slice-aggregate-put-2 : tie.Need-slice-aggregate-put-2
+slice-aggregate-put-2 c = search rules
+
+put-requires-2 : tie.Need-put-requires-2
+put-requires-2 c κs = search rules
+
+enum-told-3 : tie.Need-enum-told-3
+enum-told-3 c = search rules
+
+slice-aggregate-put-3 : tie.Need-slice-aggregate-put-3
+slice-aggregate-put-3 c = search rules
+
+put-requires-3 : tie.Need-put-requires-3
+put-requires-3 c κs = search rules
+
+enum-told-4 : tie.Need-enum-told-4
+enum-told-4 c = search rules
+
+slice-aggregate-put-4 : tie.Need-slice-aggregate-put-4
+slice-aggregate-put-4 c = search rules
+
+put-requires-4 : tie.Need-put-requires-4
+put-requires-4 c κs = search rules
+
+enum-told-5 : tie.Need-enum-told-5
+enum-told-5 c = search rules
+
+slice-aggregate-put-5 : tie.Need-slice-aggregate-put-5
+slice-aggregate-put-5 c = search rules
+
+put-requires-5 : tie.Need-put-requires-5
+put-requires-5 c κs = search rules
+
+enum-told-6 : tie.Need-enum-told-6
+enum-told-6 c = search rules
+
+slice-aggregate-put-6 : tie.Need-slice-aggregate-put-6
+slice-aggregate-put-6 c = search rules
+
+put-requires-6 : tie.Need-put-requires-6
+put-requires-6 c κs = search rules
+
+enum-told-7 : tie.Need-enum-told-7
+enum-told-7 c = search rules
+
+slice-aggregate-put-7 : tie.Need-slice-aggregate-put-7
+slice-aggregate-put-7 c = search rules
+
+put-requires-7 : tie.Need-put-requires-7
+put-requires-7 c κs = search rules
+
+same_length : tie.Need-same-length
+same_length c = search rules
+
+returns : tie.Need-returns
+returns c = (rw c.before.before.before.before.before.enum_told.given.1 c.before.before.put.ensures.0, omega (arith, c.before.before.put.ensures.1))
+
+same-length-2 : tie.Need-same-length-2
+same-length-2 c = search rules
+
+returns-2 : tie.Need-returns-2
+returns-2 c = (rw c.before.before.before.before.before.enum-told2.given.1 c.before.before.put2.ensures.0, omega (arith, c.before.before.put2.ensures.1))
+
+same-length-3 : tie.Need-same-length-3
+same-length-3 c = search rules
+
+returns-3 : tie.Need-returns-3
+returns-3 c = (rw c.before.before.before.before.before.enum-told3.given.1 c.before.before.put3.ensures.0, omega (arith, c.before.before.put3.ensures.1))
+
+same-length-4 : tie.Need-same-length-4
+same-length-4 c = search rules
+
+returns-4 : tie.Need-returns-4
+returns-4 c = (rw c.before.before.before.before.before.enum-told4.given.1 c.before.before.put4.ensures.0, omega (arith, c.before.before.put4.ensures.1))
+
+same-length-5 : tie.Need-same-length-5
+same-length-5 c = search rules
+
+returns-5 : tie.Need-returns-5
+returns-5 c = (rw c.before.before.before.before.before.enum-told5.given.1 c.before.before.put5.ensures.0, omega (arith, c.before.before.put5.ensures.1))
+
+same-length-6 : tie.Need-same-length-6
+same-length-6 c = search rules
+
+returns-6 : tie.Need-returns-6
+returns-6 c = (rw c.before.before.before.before.before.enum-told6.given.1 c.before.before.put6.ensures.0, omega (arith, c.before.before.put6.ensures.1))
+
+same-length-7 : tie.Need-same-length-7
+same-length-7 c = search rules
+
+returns-7 : tie.Need-returns-7
+returns-7 c = (rw c.before.before.before.before.before.enum-told7.given.1 c.before.before.put7.ensures.0, omega (arith, c.before.before.put7.ensures.1))
+
+pub put_kind_spec : {M : Type 1} → statement M
+put_kind_spec =
+    tie.close
+    (tie.spec
+    enum_told
+    slice-aggregate-put
+    put-requires
+    enum-told-2
+    slice-aggregate-put-2
+    put-requires-2
+    enum-told-3
+    slice-aggregate-put-3
+    put-requires-3
+    enum-told-4
+    slice-aggregate-put-4
+    put-requires-4
+    enum-told-5
+    slice-aggregate-put-5
+    put-requires-5
+    enum-told-6
+    slice-aggregate-put-6
+    put-requires-6
+    enum-told-7
+    slice-aggregate-put-7
+    put-requires-7
+    same_length
+    returns
+    same-length-2
+    returns-2
+    same-length-3
+    returns-3
+    same-length-4
+    returns-4
+    same-length-5
+    returns-5
+    same-length-6
+    returns-6
+    same-length-7
+    returns-7)

@@ -1,0 +1,98 @@
+-- `items::read_start` is safe and ends: what came stays within `first`, which keeps its length, and the turns fall. Assumes nothing.
+use borrow.Author.Rules.{rules}
+use Rattle.items.proofs.read_start.Statement.{statement}
+use Rattle.items.proofs.read_start.Tie as tie
+use Prim.Native.Nat.{◌≤◌}
+use mathlib.Core.Path.{◌≡◌}
+use native.Mathlib.Omega.{arith}
+use lib.ListN.{length, length-take, length-drop}
+use Rattle.io.proofs.Counting.{prefix_len_of_le}
+
+abbrev invariant-loop : tie.invariant-loop
+invariant-loop first₀ done₀ turns₀ first done turns = (done ≤ length first) × (length first ≡ length first₀)
+
+abbrev decreases-loop : tie.decreases-loop
+decreases-loop first₀ done₀ turns₀ first done turns = turns
+
+loop-holds : tie.Need-loop-init invariant-loop decreases-loop
+loop-holds c = search rules
+
+sub_read : tie.Need-overflow-sub-read invariant-loop decreases-loop
+sub_read c = search rules
+
+part-read-start : tie.Need-slice-bounds-read-start invariant-loop decreases-loop
+part-read-start c = search rules
+
+part-read-end : tie.Need-slice-bounds-read-end invariant-loop decreases-loop
+part-read-end c = search rules
+
+read-requires : tie.Need-read-requires invariant-loop decreases-loop
+read-requires c κs = search rules
+
+same_length : tie.Need-same-length invariant-loop decreases-loop
+same_length c = search rules
+
+returns : tie.Need-returns invariant-loop decreases-loop
+returns c = prefix_len_of_le _ _ (omega arith)
+
+sub-count : tie.Need-overflow-sub-count invariant-loop decreases-loop
+sub-count c = search rules
+
+part-count-start : tie.Need-slice-bounds-count-start invariant-loop decreases-loop
+part-count-start c = search rules
+
+part-count-end : tie.Need-slice-bounds-count-end invariant-loop decreases-loop
+part-count-end c = search rules
+
+count-requires : tie.Need-count-requires invariant-loop decreases-loop
+count-requires c κs = search rules
+
+add_done : tie.Need-overflow-add-done invariant-loop decreases-loop
+add_done c = omega (arith, simp (length-take, length-drop) at c.count.ensures.0.0)
+
+sub-turns : tie.Need-overflow-sub-turns invariant-loop decreases-loop
+sub-turns c = search rules
+
+loop-less : tie.Need-loop-smaller invariant-loop decreases-loop
+loop-less c = search rules
+
+loop-again : tie.Need-loop-preserved invariant-loop decreases-loop
+loop-again c = (omega (arith, simp (length-take, length-drop) at c.count.ensures.0.0), search rules)
+
+same-length-2 : tie.Need-same-length-2 invariant-loop decreases-loop
+same-length-2 c = search rules
+
+returns-2 : tie.Need-returns-2 invariant-loop decreases-loop
+returns-2 c = prefix_len_of_le _ _ (omega arith)
+
+same-length-3 : tie.Need-same-length-3 invariant-loop decreases-loop
+same-length-3 c = search rules
+
+returns-3 : tie.Need-returns-3 invariant-loop decreases-loop
+returns-3 c = prefix_len_of_le _ _ (omega arith)
+
+pub read_start_spec : {M : Type 1} → statement M
+read_start_spec =
+    tie.close
+    (tie.spec
+    invariant-loop
+    decreases-loop
+    loop-holds
+    sub_read
+    part-read-start
+    part-read-end
+    read-requires
+    same_length
+    returns
+    sub-count
+    part-count-start
+    part-count-end
+    count-requires
+    add_done
+    sub-turns
+    loop-less
+    loop-again
+    same-length-2
+    returns-2
+    same-length-3
+    returns-3)

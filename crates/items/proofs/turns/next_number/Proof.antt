@@ -1,0 +1,51 @@
+-- `items::turns::next_number` meets its contract, case by case. Assumes nothing.
+use mathlib.Core.Path.{sym, ap}
+use Rattle.items.specs.Lines.{number_after}
+use borrow.Author.Rules.{rules}
+use Rattle.items.proofs.turns.next_number.Statement.{statement}
+use Rattle.items.proofs.turns.next_number.Tie as tie
+
+enum_told : tie.Need-enum-told
+enum_told c = search rules
+
+enum-told-2 : tie.Need-enum-told-2
+enum-told-2 c = search rules
+
+enum-told-3 : tie.Need-enum-told-3
+enum-told-3 c = search rules
+
+add-result : tie.Need-overflow-add-result
+add-result c = search rules
+
+enum-told-4 : tie.Need-enum-told-4
+enum-told-4 c = search rules
+
+add-result-2 : tie.Need-overflow-add-result-2
+add-result-2 c = search rules
+
+returns : tie.Need-returns
+returns c = search rules
+
+returns-2 : tie.Need-returns-2
+returns-2 c = search rules
+
+returns-3 : tie.Need-returns-3
+returns-3 c = sym (ap (number_after _) c.enum-told3.given.1)
+
+returns-4 : tie.Need-returns-4
+returns-4 c = sym (ap (number_after _) c.enum-told4.given.1)
+
+pub next_number_spec : {M : Type 1} → statement M
+next_number_spec =
+    tie.close
+    (tie.spec
+    enum_told
+    enum-told-2
+    enum-told-3
+    add-result
+    enum-told-4
+    add-result-2
+    returns
+    returns-2
+    returns-3
+    returns-4)

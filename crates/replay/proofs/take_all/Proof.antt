@@ -1,0 +1,55 @@
+-- `replay::take_all` is safe and ends: the store keeps its length, and the turns fall. Assumes nothing.
+use borrow.Author.Rules.{rules}
+use Rattle.replay.proofs.take_all.Statement.{statement}
+use Rattle.replay.proofs.take_all.Tie as tie
+use mathlib.Core.Path.{◌≡◌}
+use lib.ListN.{length}
+
+abbrev invariant-loop : tie.invariant-loop
+invariant-loop store₀ held₀ turns₀ store held turns = length store ≡ length store₀
+
+abbrev decreases-loop : tie.decreases-loop
+decreases-loop store₀ held₀ turns₀ store held turns = turns
+
+loop-holds : tie.Need-loop-init invariant-loop decreases-loop
+loop-holds c = search rules
+
+take-some-requires : tie.Need-take-some-requires invariant-loop decreases-loop
+take-some-requires c κs = search rules
+
+same_length : tie.Need-same-length invariant-loop decreases-loop
+same_length c = search rules
+
+returns : tie.Need-returns invariant-loop decreases-loop
+returns c = tt
+
+sub-turns : tie.Need-overflow-sub-turns invariant-loop decreases-loop
+sub-turns c = search rules
+
+loop-less : tie.Need-loop-smaller invariant-loop decreases-loop
+loop-less c = search rules
+
+loop-again : tie.Need-loop-preserved invariant-loop decreases-loop
+loop-again c = search rules
+
+same-length-2 : tie.Need-same-length-2 invariant-loop decreases-loop
+same-length-2 c = search rules
+
+returns-2 : tie.Need-returns-2 invariant-loop decreases-loop
+returns-2 c = tt
+
+pub take_all_spec : {M : Type 1} → statement M
+take_all_spec =
+    tie.close
+    (tie.spec
+    invariant-loop
+    decreases-loop
+    loop-holds
+    take-some-requires
+    same_length
+    returns
+    sub-turns
+    loop-less
+    loop-again
+    same-length-2
+    returns-2)
