@@ -29,10 +29,10 @@ pub fresh-r-requires : goal.fresh-r-requires
 fresh-r-requires c = (c.loop-starts.invariant.0, c.loop-starts.invariant.3)
 
 pub returns-in_default : goal.returns-in_default
-returns-in_default c = ap place_said c.in_default.is ∙ attributes_unnamed _ _ link_limits _ _ c.loop-starts.invariant.4 c.loop-starts.invariant.5 (sym c.ends_tag.ensures ∙ not-true _ c.loop-starts-test.true-raw) (place_is c.fresh-r.ensures c.in_default.is)
+returns-in_default c = ap place_said c.in_default.is ∙ attributes_unnamed _ _ link_limits _ _ c.loop-starts.invariant.4 c.loop-starts.invariant.5 (sym c.ends_tag.ensures ∙ c.loop-starts-test.true) (place_is c.fresh-r.ensures c.in_default.is)
 
 pub returns-in-Refused : goal.returns-in-Refused
-returns-in-Refused c = attributes_no_value _ _ link_limits _ _ c.loop-starts.invariant.4 c.loop-starts.invariant.5 (sym c.ends_tag.ensures ∙ not-true _ c.loop-starts-test.true-raw) (place_is c.fresh-r.ensures c.in-Whole.is) (span_is c.quoted-value.ensures c.in-Refused.is)
+returns-in-Refused c = attributes_no_value _ _ link_limits _ _ c.loop-starts.invariant.4 c.loop-starts.invariant.5 (sym c.ends_tag.ensures ∙ c.loop-starts-test.true) (place_is c.fresh-r.ensures c.in-Whole.is) (span_is c.quoted-value.ensures c.in-Refused.is)
 
 pub offset_bounds-starts-n : goal.offset_bounds-starts-n
 offset_bounds-starts-n c = omega (arith, fresh_held_lem _ _ link_limits _ _ _ _ (place_is c.fresh-r.ensures c.in-Whole.is))
@@ -59,7 +59,7 @@ pub loop-starts-preserved : goal.loop-starts-preserved
 loop-starts-preserved c =
     let named = place_is c.fresh-r.ensures c.in-Whole.is in
     let valued = span_is c.quoted-value.ensures c.in-Whole-value.is in
-    let more = sym c.ends_tag.ensures ∙ not-true _ c.loop-starts-test.true-raw in
+    let more = sym c.ends_tag.ensures ∙ c.loop-starts-test.true in
     let held = c.loop-starts.invariant in
     let f = fresh_held_lem _ _ link_limits _ _ _ _ named in (
       omega (arith, f.2),
@@ -71,4 +71,4 @@ loop-starts-preserved c =
     )
 
 pub returns : goal.returns
-returns c = attributes_done _ _ link_limits _ _ c.loop-starts.invariant.4 c.loop-starts.invariant.5 (sym c.ends_tag.ensures ∙ not-false _ c.loop-starts-test.false-raw)
+returns c = attributes_done _ _ link_limits _ _ c.loop-starts.invariant.4 c.loop-starts.invariant.5 (sym c.ends_tag.ensures ∙ c.loop-starts-test.false)

@@ -16,7 +16,7 @@ pub returns-then-not-eight_stand : goal.returns-then-not-eight_stand
 returns-then-not-eight_stand c =
     let a = c.args in
     let s = a.s.now in
-    let off = sym c.eight_stand.ensures ∙ not-true _ c.if-not-eight_stand.true-raw in
+    let off = sym c.eight_stand.ensures ∙ c.if-not-eight_stand.true in
     sym (other_part s a.b s a.at c.loop-k.k 8 (omega arith) (omega arith) a.n (omega arith) off)
 
 pub loop-k-preserved : goal.loop-k-preserved
@@ -24,7 +24,7 @@ loop-k-preserved c =
     let a = c.args in
     let s = a.s.now in
     let at-loop = c.loop-k in
-    let on = sym c.eight_stand.ensures ∙ not-false _ c.if-not-eight_stand.false-raw in
+    let on = sym c.eight_stand.ensures ∙ c.if-not-eight_stand.false in
     (search rules, sym (same_joined s a.b s a.at at-loop.k 8 (omega arith) (omega arith) at-loop.k (omega arith) at-loop.invariant.1) ∙ on)
 
 pub returns : goal.returns

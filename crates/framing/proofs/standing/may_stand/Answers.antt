@@ -11,10 +11,10 @@ use Rattle.framing.proofs.standing.may_stand.Goals as goal
 pub returns-then-not-first_and_last : goal.returns-then-not-first_and_last
 returns-then-not-first_and_last c =
     let a = c.args in
-    sym (ap (λ (t : Bool). t && pair_in a.boundary.now (length a.boundary.now / 2) a.piece.now a.at) (sym c.first_and_last.ensures ∙ not-true _ c.if-not-first_and_last.true-raw))
+    sym (ap (λ (t : Bool). t && pair_in a.boundary.now (length a.boundary.now / 2) a.piece.now a.at) (sym c.first_and_last.ensures ∙ c.if-not-first_and_last.true))
 
 pub returns : goal.returns
 returns c =
     let a = c.args in
     c.first_and_middle.ensures
-    ∙ sym (ap (λ (t : Bool). t && pair_in a.boundary.now (length a.boundary.now / 2) a.piece.now a.at) (sym c.first_and_last.ensures ∙ not-false _ c.if-not-first_and_last.false-raw))
+    ∙ sym (ap (λ (t : Bool). t && pair_in a.boundary.now (length a.boundary.now / 2) a.piece.now a.at) (sym c.first_and_last.ensures ∙ c.if-not-first_and_last.false))

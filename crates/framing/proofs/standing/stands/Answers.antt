@@ -13,13 +13,13 @@ pub returns-then-not-eight_stand : goal.returns-then-not-eight_stand
 returns-then-not-eight_stand c =
     let a = c.args in
     let b = a.boundary.now in
-    let front = sym c.eight_stand.ensures ∙ not-true _ c.if-not-eight_stand.true-raw in
+    let front = sym c.eight_stand.ensures ∙ c.if-not-eight_stand.true in
     sym (other_part b 0 a.piece.now a.at 0 8 (omega arith) (omega arith) (length b) (omega arith) (rw (add-zero a.at) front))
 
 pub returns : goal.returns
 returns c =
     let a = c.args in
     let b = a.boundary.now in
-    let front = sym c.eight_stand.ensures ∙ not-false _ c.if-not-eight_stand.false-raw in
+    let front = sym c.eight_stand.ensures ∙ c.if-not-eight_stand.false in
     let all : length b - 8 + 8 ≡ length b = omega arith in
     c.eight_stand-2.ensures ∙ rw (zero-add, all) at (same_joined b 0 a.piece.now a.at (length b - 8) 8 (omega arith) (omega arith) 8 (omega arith) front)

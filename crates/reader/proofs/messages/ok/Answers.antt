@@ -6,7 +6,7 @@ use Rattle.reader.proofs.Seven.{root_end, value_missing, value_there, numbers_sa
 use Rattle.reader.proofs.messages.ok.Goals as goal
 
 pub returns-then-not-is_there : goal.returns-then-not-is_there
-returns-then-not-is_there c = λ root so held. value_missing _ _ _ root.tag c.attribute-value.ensures (c.name_end.ensures ∙ root_end _ _ _ root so held) _ (sym c.is_there.ensures ∙ not-true _ c.if-not-is_there.true-raw)
+returns-then-not-is_there c = λ root so held. value_missing _ _ _ root.tag c.attribute-value.ensures (c.name_end.ensures ∙ root_end _ _ _ root so held) _ (sym c.is_there.ensures ∙ c.if-not-is_there.true)
 
 pub returns : goal.returns
-returns c = λ root so held. c.numbers.ensures ∙ numbers_same c.no_number.ensures c.number_value.ensures ∙ value_there _ _ _ root.tag c.attribute-value.ensures (c.name_end.ensures ∙ root_end _ _ _ root so held) _ (sym c.is_there.ensures ∙ not-false _ c.if-not-is_there.false-raw)
+returns c = λ root so held. c.numbers.ensures ∙ numbers_same c.no_number.ensures c.number_value.ensures ∙ value_there _ _ _ root.tag c.attribute-value.ensures (c.name_end.ensures ∙ root_end _ _ _ root so held) _ (sym c.is_there.ensures ∙ c.if-not-is_there.false)

@@ -14,7 +14,7 @@ loop-left-init c =
 pub returns-then-not-is_among : goal.returns-then-not-is_among
 returns-then-not-is_among c =
     let l = c.loop-left in
-    let free = sym c.is_among.ensures ∙ not-true _ c.if-not-is_among.true-raw in
+    let free = sym c.is_among.ensures ∙ c.if-not-is_among.true in
     sym (l.invariant ∙ free_here l.left _ _ c.loop-left-test.true free)
 
 pub overflow_sub-left : goal.overflow_sub-left
@@ -27,7 +27,7 @@ pub loop-left-preserved : goal.loop-left-preserved
 loop-left-preserved c =
     let l = c.loop-left in
     let numbers = c.args.numbers.now in
-    let taken = sym c.is_among.ensures ∙ not-false _ c.if-not-is_among.false-raw in
+    let taken = sym c.is_among.ensures ∙ c.if-not-is_among.false in
     l.invariant
     ∙ free_later l.left _ _ c.loop-left-test.true taken
     ∙ ap (λ (n : ℕ). free_from (l.left - 1) n numbers) (sym c.wrapping_add_u32-number-in-loop-left.ensures)

@@ -1,5 +1,4 @@
 -- `scan::bytes::equals` meets its contract: a `=` that was not read is handed on, and behind one that was the white space is passed. Assumes nothing.
-use borrow.Author.Rules.{rules}
 use mathlib.Core.Path.{ap, ◌∙◌}
 use Rattle.message.specs.Reading.Reading.{whole}
 use Rattle.message.specs.Reading.{one, is, equals_at}

@@ -1,5 +1,4 @@
 -- `scan::bytes::is_at` meets its contract. Assumes nothing.
-use borrow.Author.Rules.{rules}
 use mathlib.Core.Path.{sym}
 use Rattle.message.proofs.Laws.{has_in, has_out}
 use Rattle.scan.proofs.bytes.is_at.Goals as goal

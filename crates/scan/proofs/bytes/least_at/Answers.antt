@@ -1,5 +1,4 @@
 -- `scan::bytes::least_at` meets its contract: in the message the class of the byte there is compared, and past its end nothing stands. Assumes nothing.
-use borrow.Author.Rules.{rules}
 use mathlib.Core.Path.{sym, ap, ◌∙◌}
 use lib.Dec.{leb}
 use Rattle.message.proofs.Laws.{has_in, has_out}

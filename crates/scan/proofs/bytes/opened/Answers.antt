@@ -1,5 +1,4 @@
 -- `scan::bytes::opened` meets its contract: the `=` and then the quotation mark are read as the specification reads them. Assumes nothing.
-use borrow.Author.Rules.{rules}
 use mathlib.Core.Path.{◌∙◌}
 use Rattle.message.specs.Reading.{opened_at}
 use Rattle.scan.proofs.Said.{place_is, handed}

@@ -1,5 +1,4 @@
 -- `scan::bytes::quote` meets its contract: a mark of the first kind is a mark, and where none stands only the second kind is one. Assumes nothing.
-use borrow.Author.Rules.{rules}
 use mathlib.Core.Path.{sym, ◌∙◌}
 use native.Mathlib.Omega.{arith}
 use Rattle.message.specs.Reading.{is}

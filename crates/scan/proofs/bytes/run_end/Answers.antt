@@ -1,17 +1,12 @@
 -- `scan::bytes::run_end` meets its contract: from each place that the loop comes to, the run ends where it ends from the first, and where fewer than four bytes pass it ends behind them. Assumes nothing.
-use borrow.Author.Rules.{rules}
-use Prim.Native.Nat.{◌-◌, ◌^◌, ◌<◌, ◌≤◌}
-use mathlib.Core.Logic.{⊎_elim}
-use mathlib.Core.Path.{◌≡◌, refl, ◌∙◌}
+use mathlib.Core.Path.{refl, ◌∙◌}
 use native.Mathlib.Omega.{arith}
-use lib.ListN.{length}
-use Rattle.message.specs.Class.{class_in, at_least}
-use Rattle.message.specs.Reading.{ends}
 use Rattle.message.proofs.Laws.{up_in, up_all, up_some}
 use Rattle.scan.proofs.bytes.run_end.Goals as goal
+use Rattle.scan.proofs.bytes.run_end.Goals.{then-s-lt4, else-s-lt4}
 
 pub loop-i-init : goal.loop-i-init
-loop-i-init c = (omega arith, ⊎_elim (λ w. omega (arith, w.1)) (λ w. omega (arith, w.0.left, w.1)) c.if-s-lt4.branch, refl)
+loop-i-init c = (omega arith, elim c.if-s-lt4.branch [ then-s-lt4 w ↦ omega arith | else-s-lt4 w ↦ omega arith ], refl)
 
 pub overflow_add-i : goal.overflow_add-i
 overflow_add-i c = omega (arith, up_in _ _ _ _ c.few-n.ensures)

@@ -1,13 +1,9 @@
 -- `scan::bytes::run_end` meets its contract: from each place that the loop comes to, the run ends where it ends from the first, and where fewer than four bytes pass it ends behind them. Assumes nothing.
-use borrow.Author.Rules.{rules}
 use Prim.Native.Nat.{◌-◌, ◌^◌, ◌<◌, ◌≤◌}
-use mathlib.Core.Logic.{⊎_elim}
-use mathlib.Core.Path.{◌≡◌, refl, ◌∙◌}
-use native.Mathlib.Omega.{arith}
+use mathlib.Core.Path.{◌≡◌}
 use lib.ListN.{length}
 use Rattle.message.specs.Class.{class_in, at_least}
 use Rattle.message.specs.Reading.{ends}
-use Rattle.message.proofs.Laws.{up_in, up_all, up_some}
 use Rattle.scan.proofs.bytes.run_end.Given as goal
 
 abbrev pub invariant-loop-i : goal.invariant-loop-i

@@ -1,5 +1,4 @@
 -- `scan::bytes::start` meets its contract. Assumes nothing.
-use borrow.Author.Rules.{rules}
 use mathlib.Core.Path.{sym, ◌∙◌}
 use native.Mathlib.Omega.{arith}
 use Rattle.message.proofs.Laws.{has_lt, one_yes, one_no}

@@ -1,22 +1,13 @@
 -- `scan::names::name` meets its contract: from each place that the loop comes to, the part there, and what is still to come behind it, are the name. Assumes nothing.
-use borrow.Author.Rules.{rules}
-use Prim.Native.Nat.{ℕ, ◌+◌, ◌-◌}
-use mathlib.Core.Path.{◌≡◌, refl, sym, ◌∙◌}
-use mathlib.Core.Bool.{cond}
-use mathlib.Core.List.{List}
+use mathlib.Core.Path.{sym, ◌∙◌}
 use native.Mathlib.Omega.{arith}
-use lib.Dec.{eqb}
 use borrow.Author.Tests.{not-true, not-false, eq-eqb, ne_eqb}
 use Rattle.message.specs.Class.{class_in}
-use Rattle.message.specs.Reading.{Reading, ◌>>=◌, is, has}
-use Rattle.message.specs.Reading.Reading.{whole}
-use Rattle.message.specs.Names.{Named, part_at, name_at}
 use Rattle.scan.proofs.Said.{place_is}
 use Rattle.message.proofs.Laws.{went, stopped, has_lt, cond_true, cond_false}
-use Rattle.message.proofs.Facts.{then_same}
 use Rattle.message.proofs.Trees.{part_on}
 use Rattle.scan.proofs.names.name.Goals as goal
-use Rattle.scan.proofs.names.name.Invariants.{onward, from, first, second}
+use Rattle.scan.proofs.names.name.Invariants.{first, second}
 
 pub loop-end-init : goal.loop-end-init
 loop-end-init c = first _ _ _ _
@@ -31,13 +22,13 @@ returns-then-local-at c =
 
 pub returns-then-not-is_at : goal.returns-then-not-is_at
 returns-then-not-is_at c =
-    cond_false _ (sym c.is_at.ensures ∙ not-true _ c.if-not-is_at.true-raw)
+    cond_false _ (sym c.is_at.ensures ∙ c.if-not-is_at.true)
     ∙ cond_true _ (eq-eqb _ _ c.if-local-at.false)
     ∙ went _ (place_is c.part-r.ensures c.in-Whole.is)
     ∙ c.loop-end.invariant
 
 pub overflow_add-local : goal.overflow_add-local
-overflow_add-local c = omega (arith, has_lt _ _ _ (sym c.is_at.ensures ∙ not-false _ c.if-not-is_at.false-raw))
+overflow_add-local c = omega (arith, has_lt _ _ _ (sym c.is_at.ensures ∙ c.if-not-is_at.false))
 
 pub loop-end-smaller : goal.loop-end-smaller
 loop-end-smaller c =
@@ -50,7 +41,7 @@ loop-end-preserved c =
     let read = place_is c.part-r.ensures c.in-Whole.is in
     let on = part_on (class_in a.table.now) a.s.now a.most read in
     second _ _ _ _ _ (λ e. omega (arith, e, on, c.if-local-at.false))
-    ∙ cond_true _ (sym c.is_at.ensures ∙ not-false _ c.if-not-is_at.false-raw)
+    ∙ cond_true _ (sym c.is_at.ensures ∙ c.if-not-is_at.false)
     ∙ cond_true _ (eq-eqb _ _ c.if-local-at.false)
     ∙ went _ read
     ∙ c.loop-end.invariant

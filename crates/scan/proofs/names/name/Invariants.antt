@@ -1,20 +1,16 @@
 -- `scan::names::name` meets its contract: from each place that the loop comes to, the part there, and what is still to come behind it, are the name. Assumes nothing.
-use borrow.Author.Rules.{rules}
 use Prim.Native.Nat.{ℕ, ◌+◌, ◌-◌}
-use mathlib.Core.Path.{◌≡◌, refl, sym, ◌∙◌}
+use mathlib.Core.Path.{◌≡◌, refl, sym}
 use mathlib.Core.Bool.{cond}
 use mathlib.Core.List.{List}
-use native.Mathlib.Omega.{arith}
 use lib.Dec.{eqb}
-use borrow.Author.Tests.{not-true, not-false, eq-eqb, ne_eqb}
+use borrow.Author.Tests.{eq-eqb, ne_eqb}
 use Rattle.message.specs.Class.{class_in}
 use Rattle.message.specs.Reading.{Reading, ◌>>=◌, is, has}
 use Rattle.message.specs.Reading.Reading.{whole}
 use Rattle.message.specs.Names.{Named, part_at, name_at}
-use Rattle.scan.proofs.Said.{place_is}
-use Rattle.message.proofs.Laws.{went, stopped, has_lt, cond_true, cond_false}
+use Rattle.message.proofs.Laws.{cond_true, cond_false}
 use Rattle.message.proofs.Facts.{then_same}
-use Rattle.message.proofs.Trees.{part_on}
 use Rattle.scan.proofs.names.name.Given as goal
 
 -- what comes behind the part that begins at `local` and ends at `end`: after the first part a colon calls for a second, after the second nothing more

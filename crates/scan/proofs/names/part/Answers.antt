@@ -1,5 +1,4 @@
 -- `scan::names::part` meets its contract: a byte that begins a name is read before the run is measured. Assumes nothing.
-use borrow.Author.Rules.{rules}
 use mathlib.Core.Path.{◌∙◌}
 use Rattle.message.specs.Names.{part_at}
 use Rattle.scan.proofs.Said.{place_is, handed}

@@ -1,5 +1,4 @@
 -- `scan::words::spells` meets its contract: it says which way the reading of the word went. Assumes nothing.
-use borrow.Author.Rules.{rules}
 use mathlib.Core.Path.{sym, ap}
 use Rattle.message.specs.Reading.{is_whole}
 use Rattle.scan.proofs.Said.{place_is}

@@ -1,11 +1,7 @@
 -- `scan::words::word` meets its contract: from the two places that the loop comes to, what is left of the word gives what the whole word gave at the
 -- start. Assumes nothing.
-use borrow.Author.Rules.{rules}
-use mathlib.Core.Path.{◌≡◌, refl, sym, ◌∙◌}
-use Prim.Native.Nat.{◌-◌}
+use mathlib.Core.Path.{refl, sym, ◌∙◌}
 use native.Mathlib.Omega.{arith}
-use lib.ListN.{length, drop}
-use Rattle.message.specs.Reading.{word_at}
 use Rattle.scan.proofs.Said.{place_is, handed}
 use Rattle.message.proofs.Laws.{went, word_none, word_more}
 use Rattle.scan.proofs.words.word.Goals as goal

@@ -29,7 +29,7 @@ returns-then-not-is_sound c =
     let t = a.self in
     let size = rows_count t (search unmapped) c.requires in
     let here = get_or-take t.count t.rows l.i no_push c.loop-i-test.true in
-    let other = ap (sound_push a.terms) here ∙ sym c.is_sound.ensures ∙ not-true _ c.if-not-is_sound.true-raw in
+    let other = ap (sound_push a.terms) here ∙ sym c.is_sound.ensures ∙ c.if-not-is_sound.true in
     sym (l.invariant ∙ all_not (sound_push a.terms) (rows_of t) l.i no_push (omega arith) other)
 
 pub overflow_add-i : goal.overflow_add-i
@@ -46,7 +46,7 @@ loop-i-preserved c =
     let t = a.self in
     let size = rows_count t (search unmapped) c.requires in
     let here = get_or-take t.count t.rows l.i no_push c.loop-i-test.true in
-    let passes = ap (sound_push a.terms) here ∙ sym c.is_sound.ensures ∙ not-false _ c.if-not-is_sound.false-raw in
+    let passes = ap (sound_push a.terms) here ∙ sym c.is_sound.ensures ∙ c.if-not-is_sound.false in
     l.invariant ∙ all_later (sound_push a.terms) (rows_of t) l.i no_push (omega arith) passes
 
 pub returns : goal.returns

@@ -25,7 +25,7 @@ returns-then-not-is_blank c =
     let l = c.loop-i in
     let rows = c.args.self.rows in
     let size : length rows ≡ 32 = search unmapped in
-    let other = sym c.is_blank.ensures ∙ not-true _ c.if-not-is_blank.true-raw in
+    let other = sym c.is_blank.ensures ∙ c.if-not-is_blank.true in
     sym (l.invariant ∙ all_not is_blank rows l.i no_push (omega arith) other)
 
 pub overflow_add-i : goal.overflow_add-i
@@ -39,7 +39,7 @@ loop-i-preserved c =
     let l = c.loop-i in
     let rows = c.args.self.rows in
     let size : length rows ≡ 32 = search unmapped in
-    let blank = sym c.is_blank.ensures ∙ not-false _ c.if-not-is_blank.false-raw in
+    let blank = sym c.is_blank.ensures ∙ c.if-not-is_blank.false in
     l.invariant ∙ all_later is_blank rows l.i no_push (omega arith) blank
 
 pub returns : goal.returns

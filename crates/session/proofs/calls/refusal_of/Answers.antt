@@ -25,11 +25,11 @@ size c =
     rows_count start.args.s.pushes (search unmapped) start.requires
 
 pub returns-then-not-fits : goal.returns-then-not-fits
-returns-then-not-fits c = rw (going c.before.before, sym c.fits.ensures ∙ not-true _ c.if-not-fits.true-raw)
+returns-then-not-fits c = rw (going c.before.before, sym c.fits.ensures ∙ c.if-not-fits.true)
 
 pub returns-then-not-is_push : goal.returns-then-not-is_push
 returns-then-not-is_push c =
-    rw (going at.before.before, fitting at, sym c.is_push.ensures ∙ not-true _ c.if-not-is_push.true-raw)
+    rw (going at.before.before, fitting at, sym c.is_push.ensures ∙ c.if-not-is_push.true)
 
 pub returns-then-table-lt-MOST : goal.returns-then-table-lt-MOST
 returns-then-table-lt-MOST c =

@@ -25,7 +25,7 @@ returns-then-places-lt-PLACES c = c.refused.ensures ∙ cond_true _ (lt-ltb _ _ 
 pub returns-then-not-is_consistent : goal.returns-then-not-is_consistent
 returns-then-not-is_consistent c =
     c.refused-then-not-is_consistent.ensures
-    ∙ cond_false _ (sym c.is_consistent.ensures ∙ not-true _ c.if-not-is_consistent.true-raw)
+    ∙ cond_false _ (sym c.is_consistent.ensures ∙ c.if-not-is_consistent.true)
     ∙ cond_false _ (le-ltb _ _ c.if-places-lt-PLACES.false)
 
 pub refusal_of-why-requires : goal.refusal_of-why-requires

@@ -83,24 +83,24 @@ pub returns-then-count-gt-MOST : goal.returns-then-count-gt-MOST
 returns-then-count-gt-MOST c = and_false _ (lt-leb _ _ c.if-count-gt-MOST.true)
 
 pub returns-then-not-is_blank_after : goal.returns-then-not-is_blank_after
-returns-then-not-is_blank_after c = and_false _ (sym c.is_blank_after.ensures ∙ not-true _ c.if-not-is_blank_after.true-raw) ∙ fits c.before.before
+returns-then-not-is_blank_after c = and_false _ (sym c.is_blank_after.ensures ∙ c.if-not-is_blank_after.true) ∙ fits c.before.before
 
 pub returns-then-not-is_allowed : goal.returns-then-not-is_allowed
-returns-then-not-is_allowed c = and_false _ (sym c.is_allowed.ensures ∙ not-true _ c.if-not-is_allowed.true-raw) ∙ blank c.before.before
+returns-then-not-is_allowed c = and_false _ (sym c.is_allowed.ensures ∙ c.if-not-is_allowed.true) ∙ blank c.before.before
 
 pub returns-then-not-is_resends_allowed : goal.returns-then-not-is_resends_allowed
-returns-then-not-is_resends_allowed c = and_false _ (sym c.is_resends_allowed.ensures ∙ not-true _ c.if-not-is_resends_allowed.true-raw) ∙ allowed c.before.before
+returns-then-not-is_resends_allowed c = and_false _ (sym c.is_resends_allowed.ensures ∙ c.if-not-is_resends_allowed.true) ∙ allowed c.before.before
 
 pub returns-then-not-is_state_sound : goal.returns-then-not-is_state_sound
-returns-then-not-is_state_sound c = and_false _ (sym c.is_state_sound.ensures ∙ not-true _ c.if-not-is_state_sound.true-raw) ∙ resends c.before.before
+returns-then-not-is_state_sound c = and_false _ (sym c.is_state_sound.ensures ∙ c.if-not-is_state_sound.true) ∙ resends c.before.before
 
 pub returns-then-not-is_count_sound : goal.returns-then-not-is_count_sound
 returns-then-not-is_count_sound c =
-    let fails = counted c.before.before (sym c.is_count_sound.ensures ∙ not-true _ c.if-not-is_count_sound.true-raw) in
+    let fails = counted c.before.before (sym c.is_count_sound.ensures ∙ c.if-not-is_count_sound.true) in
     and_false _ fails ∙ few c.before.before
 
 pub returns-then-not-all_sound : goal.returns-then-not-all_sound
-returns-then-not-all_sound c = and_false _ (tested c.before ∙ not-true _ c.if-not-all_sound.true-raw) ∙ sound_count c.before.before.before
+returns-then-not-all_sound c = and_false _ (tested c.before ∙ c.if-not-all_sound.true) ∙ sound_count c.before.before.before
 
 pub slice_bounds-held-end : goal.slice_bounds-held-end
 slice_bounds-held-end c = inside c.before

@@ -11,7 +11,7 @@ response : (c : tie.Else1) → is_response c.before.before.args.p.what ≡ true
 response c = sym c.before.is-response.ensures ∙ not-false _ c.if1.false
 
 pub returns-then-not-is_response : goal.returns-then-not-is_response
-returns-then-not-is_response c = and_false _ (sym c.is_response.ensures ∙ not-true _ c.if-not-is_response.true-raw)
+returns-then-not-is_response c = and_false _ (sym c.is_response.ensures ∙ c.if-not-is_response.true)
 
 pub returns-then-p-ne0 : goal.returns-then-p-ne0
 returns-then-p-ne0 c = and_false _ (ne_eqb _ _ c.if-p-ne0.true) ∙ and_true _ (response c.before.before)

@@ -21,28 +21,28 @@ returns-then-is_at-3 c = c.stands-then-is_at-3.ensures ∙ cond_true _ (sym c.is
 
 pub returns-then-not-is_at : goal.returns-then-not-is_at
 unfolding predefined_at
-returns-then-not-is_at c = stopped _ (one_no _ _ _ (sym c.is_at-4.ensures ∙ not-true _ c.if-not-is_at.true-raw))
+returns-then-not-is_at c = stopped _ (one_no _ _ _ (sym c.is_at-4.ensures ∙ c.if-not-is_at.true))
     ∙ cond_false _ (sym c.is_at-3.ensures ∙ c.if-is_at-3.false) ∙ cond_false _ (sym c.is_at-2.ensures ∙ c.if-is_at-2.false) ∙ cond_false _ (sym c.is_at.ensures ∙ c.if-is_at.false)
 
 pub overflow_add-at : goal.overflow_add-at
-overflow_add-at c = omega (arith, has_lt _ _ _ (sym c.is_at-4.ensures ∙ not-false _ c.if-not-is_at.false-raw))
+overflow_add-at c = omega (arith, has_lt _ _ _ (sym c.is_at-4.ensures ∙ c.if-not-is_at.false))
 
 pub overflow_add-at-then-is_at-4 : goal.overflow_add-at-then-is_at-4
-overflow_add-at-then-is_at-4 c = omega (arith, has_lt _ _ _ (sym c.is_at-4.ensures ∙ not-false _ c.if-not-is_at.false-raw))
+overflow_add-at-then-is_at-4 c = omega (arith, has_lt _ _ _ (sym c.is_at-4.ensures ∙ c.if-not-is_at.false))
 
 pub returns-then-is_at-4 : goal.returns-then-is_at-4
 unfolding predefined_at
 returns-then-is_at-4 c = c.stands-then-is_at-4.ensures
     ∙ cond_true _ (sym c.is_at-5.ensures ∙ c.if-is_at-4.true)
-    ∙ went _ (one_yes _ _ _ (sym c.is_at-4.ensures ∙ not-false _ c.if-not-is_at.false-raw))
+    ∙ went _ (one_yes _ _ _ (sym c.is_at-4.ensures ∙ c.if-not-is_at.false))
     ∙ cond_false _ (sym c.is_at-3.ensures ∙ c.if-is_at-3.false) ∙ cond_false _ (sym c.is_at-2.ensures ∙ c.if-is_at-2.false) ∙ cond_false _ (sym c.is_at.ensures ∙ c.if-is_at.false)
 
 pub overflow_add-at-2 : goal.overflow_add-at-2
-overflow_add-at-2 c = omega (arith, has_lt _ _ _ (sym c.is_at-4.ensures ∙ not-false _ c.if-not-is_at.false-raw))
+overflow_add-at-2 c = omega (arith, has_lt _ _ _ (sym c.is_at-4.ensures ∙ c.if-not-is_at.false))
 
 pub returns : goal.returns
 unfolding predefined_at
 returns c = c.stands-2.ensures
     ∙ cond_false _ (sym c.is_at-5.ensures ∙ c.if-is_at-4.false)
-    ∙ went _ (one_yes _ _ _ (sym c.is_at-4.ensures ∙ not-false _ c.if-not-is_at.false-raw))
+    ∙ went _ (one_yes _ _ _ (sym c.is_at-4.ensures ∙ c.if-not-is_at.false))
     ∙ cond_false _ (sym c.is_at-3.ensures ∙ c.if-is_at-3.false) ∙ cond_false _ (sym c.is_at-2.ensures ∙ c.if-is_at-2.false) ∙ cond_false _ (sym c.is_at.ensures ∙ c.if-is_at.false)

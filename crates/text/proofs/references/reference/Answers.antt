@@ -18,20 +18,20 @@ three at = omega arith
 
 pub returns-then-not-is_at : goal.returns-then-not-is_at
 unfolding reference_at
-returns-then-not-is_at c = stopped _ (one_no _ _ _ (sym c.is_at.ensures ∙ not-true _ c.if-not-is_at.true-raw))
+returns-then-not-is_at c = stopped _ (one_no _ _ _ (sym c.is_at.ensures ∙ c.if-not-is_at.true))
 
 pub overflow_add-at : goal.overflow_add-at
-overflow_add-at c = omega (arith, has_lt _ _ _ (sym c.is_at.ensures ∙ not-false _ c.if-not-is_at.false-raw))
+overflow_add-at c = omega (arith, has_lt _ _ _ (sym c.is_at.ensures ∙ c.if-not-is_at.false))
 
 pub overflow_add-at-then-not-is_at-2 : goal.overflow_add-at-then-not-is_at-2
-overflow_add-at-then-not-is_at-2 c = omega (arith, has_lt _ _ _ (sym c.is_at.ensures ∙ not-false _ c.if-not-is_at.false-raw))
+overflow_add-at-then-not-is_at-2 c = omega (arith, has_lt _ _ _ (sym c.is_at.ensures ∙ c.if-not-is_at.false))
 
 pub returns-then-not-is_at-2 : goal.returns-then-not-is_at-2
 unfolding reference_at
-returns-then-not-is_at-2 c = c.predefined.ensures ∙ cond_false _ (sym c.is_at-2.ensures ∙ not-true _ c.if-not-is_at-2.true-raw) ∙ went _ (one_yes _ _ _ (sym c.is_at.ensures ∙ not-false _ c.if-not-is_at.false-raw))
+returns-then-not-is_at-2 c = c.predefined.ensures ∙ cond_false _ (sym c.is_at-2.ensures ∙ c.if-not-is_at-2.true) ∙ went _ (one_yes _ _ _ (sym c.is_at.ensures ∙ c.if-not-is_at.false))
 
 pub overflow_add-at-2 : goal.overflow_add-at-2
-overflow_add-at-2 c = omega (arith, has_lt _ _ _ (sym c.is_at-2.ensures ∙ not-false _ c.if-not-is_at-2.false-raw))
+overflow_add-at-2 c = omega (arith, has_lt _ _ _ (sym c.is_at-2.ensures ∙ c.if-not-is_at-2.false))
 
 pub overflow_add-at-then-is_at : goal.overflow_add-at-then-is_at
 overflow_add-at-then-is_at c = omega (arith, has_lt _ _ _ (sym c.is_at-3.ensures ∙ c.if-is_at.true))
@@ -39,12 +39,12 @@ overflow_add-at-then-is_at c = omega (arith, has_lt _ _ _ (sym c.is_at-3.ensures
 pub returns-then-is_at : goal.returns-then-is_at
 unfolding reference_at
 returns-then-is_at c = c.numbered.ensures ∙ ap (numbered_at 16 _) (three c.args.at) ∙ cond_true _ (ap (has (is 120) _) (sym (two c.args.at)) ∙ sym c.is_at-3.ensures ∙ c.if-is_at.true)
-    ∙ cond_true _ (sym c.is_at-2.ensures ∙ not-false _ c.if-not-is_at-2.false-raw) ∙ went _ (one_yes _ _ _ (sym c.is_at.ensures ∙ not-false _ c.if-not-is_at.false-raw))
+    ∙ cond_true _ (sym c.is_at-2.ensures ∙ c.if-not-is_at-2.false) ∙ went _ (one_yes _ _ _ (sym c.is_at.ensures ∙ c.if-not-is_at.false))
 
 pub overflow_add-at-3 : goal.overflow_add-at-3
-overflow_add-at-3 c = omega (arith, has_lt _ _ _ (sym c.is_at-2.ensures ∙ not-false _ c.if-not-is_at-2.false-raw))
+overflow_add-at-3 c = omega (arith, has_lt _ _ _ (sym c.is_at-2.ensures ∙ c.if-not-is_at-2.false))
 
 pub returns : goal.returns
 unfolding reference_at
 returns c = c.numbered-2.ensures ∙ ap (numbered_at 10 _) (two c.args.at) ∙ cond_false _ (ap (has (is 120) _) (sym (two c.args.at)) ∙ sym c.is_at-3.ensures ∙ c.if-is_at.false)
-    ∙ cond_true _ (sym c.is_at-2.ensures ∙ not-false _ c.if-not-is_at-2.false-raw) ∙ went _ (one_yes _ _ _ (sym c.is_at.ensures ∙ not-false _ c.if-not-is_at.false-raw))
+    ∙ cond_true _ (sym c.is_at-2.ensures ∙ c.if-not-is_at-2.false) ∙ went _ (one_yes _ _ _ (sym c.is_at.ensures ∙ c.if-not-is_at.false))
