@@ -55,11 +55,6 @@ or_true u h = rw h
 pub or_false : {t : Bool} (u : Bool) → t ≡ false → u ≡ (t || u)
 or_false u h = rw h
 
--- what a local is after `if x == y { a } else { b }`, from the way that control came
-pub picked : {T F : Type 0} {x y n a b : ℕ} → (T × (n ≡ a)) ⊎ (F × (n ≡ b)) → (T → x ≡ y) → (F → x ≡ y → ⊥) → n ≡ cond (eqb x y) a b
-picked {x = x} {y = y} came taken left =
-    ⊎_elim (λ w. w.1 ∙ cond_true _ (eq-eqb x y (taken w.0))) (λ w. w.1 ∙ cond_false _ (ne_eqb x y (left w.0))) came
-
 -- what holds on either way
 pub cond_both : {A : Type 0} (P : A → Type 0) {x y : A} (t : Bool) → P x → P y → P (cond t x y)
 cond_both P t p q = cond_cases P t (λ e. p) (λ e. q)

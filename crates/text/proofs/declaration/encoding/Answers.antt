@@ -25,7 +25,7 @@ returns-in_default-r-2 c = handed _ c.opened-r.ensures c.in_default-r-2.is
 
 pub returns-in_default-r-3 : goal.returns-in_default-r-3
 unfolding encoding_at
-returns-in_default-r-3 c = handed _ c.utf8.ensures c.in_default-r-3.is
+returns-in_default-r-3 c = handed _ c.utf8-r.ensures c.in_default-r-3.is
     ∙ went _ (place_is c.opened-r.ensures c.in-Whole-r-2.is)
     ∙ went _ (place_is (c.word-r.ensures ∙ ap (word_at encoding _) c.blanks.ensures) c.in-Whole-r.is)
     ∙ went _ (place_is c.space-r.ensures c.in-Whole.is)
@@ -33,7 +33,7 @@ returns-in_default-r-3 c = handed _ c.utf8.ensures c.in_default-r-3.is
 pub returns-in_default-r-4 : goal.returns-in_default-r-4
 unfolding encoding_at
 returns-in_default-r-4 c = handed _ c.closed-r.ensures c.in_default-r-4.is
-    ∙ went _ (place_is c.utf8.ensures c.in-Whole-r-3.is)
+    ∙ went _ (place_is c.utf8-r.ensures c.in-Whole-r-3.is)
     ∙ went _ (place_is c.opened-r.ensures c.in-Whole-r-2.is)
     ∙ went _ (place_is (c.word-r.ensures ∙ ap (word_at encoding _) c.blanks.ensures) c.in-Whole-r.is)
     ∙ went _ (place_is c.space-r.ensures c.in-Whole.is)
@@ -42,7 +42,7 @@ pub returns : goal.returns
 unfolding encoding_at
 returns c = c.word.ensures ∙ ap (word_at closing _) c.blanks-2.ensures
     ∙ went _ (place_is c.closed-r.ensures c.in-Whole-r-4.is)
-    ∙ went _ (place_is c.utf8.ensures c.in-Whole-r-3.is)
+    ∙ went _ (place_is c.utf8-r.ensures c.in-Whole-r-3.is)
     ∙ went _ (place_is c.opened-r.ensures c.in-Whole-r-2.is)
     ∙ went _ (place_is (c.word-r.ensures ∙ ap (word_at encoding _) c.blanks.ensures) c.in-Whole-r.is)
     ∙ went _ (place_is c.space-r.ensures c.in-Whole.is)

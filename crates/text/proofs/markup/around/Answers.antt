@@ -27,7 +27,7 @@ loop-r-preserved c = left_on (loop _ _) _ c.blanks-i-in-loop-r.ensures (bang_on 
     c.loop-r.invariant
 
 pub returns-then-opens_at : goal.returns-then-opens_at
-returns-then-opens_at c = left_done (loop _ _) (λ next. cond_true _ (sym c.opens_at-2.ensures ∙ c.if-opens_at.true) ∙ cond_false _ (sym c.opens_at-2.ensures ∙ c.loop-r-test.false)) c.loop-r.invariant
+returns-then-opens_at c = left_done (loop _ _) (λ next. cond_true _ (sym c.opens_at-2.ensures ∙ c.if-opens_at.true) ∙ cond_false _ (sym c.opens_at.ensures ∙ c.loop-r-test.false)) c.loop-r.invariant
 
 pub returns : goal.returns
-returns c = left_done (loop _ _) (λ next. cond_false _ (sym c.opens_at-2.ensures ∙ c.if-opens_at.false) ∙ cond_false _ (sym c.opens_at-2.ensures ∙ c.loop-r-test.false)) c.loop-r.invariant
+returns c = left_done (loop _ _) (λ next. cond_false _ (sym c.opens_at-2.ensures ∙ c.if-opens_at.false) ∙ cond_false _ (sym c.opens_at.ensures ∙ c.loop-r-test.false)) c.loop-r.invariant

@@ -6,6 +6,7 @@ use native.Mathlib.Omega.{arith}
 use Rattle.message.specs.Text.{bracket_at}
 use Rattle.message.proofs.Laws.{cond_true, cond_false, and_true, and_false, has_lt}
 use Rattle.text.proofs.runs.bracket.Goals as goal
+use Rattle.text.proofs.runs.bracket.Goals.{then-is_at+else-is_at-2, else-is_at}
 
 pub overflow_add-at : goal.overflow_add-at
 overflow_add-at c = omega (arith, has_lt _ _ _ c.requires)
@@ -25,7 +26,7 @@ overflow_add-result-2 c = omega (arith, has_lt _ _ _ c.requires)
 
 pub returns : goal.returns
 unfolding bracket_at
-returns c = cond_false _ (⊎_elim
-    (λ w. sym (and_true _ (sym c.is_at.ensures ∙ w.0.taken)) ∙ sym w.1.ensures ∙ w.2.left)
-    (λ w. sym (and_false _ (sym c.is_at.ensures ∙ w.left)))
-    c.if-is_at.branch)
+returns c =
+    cond_false _ (elim c.if-is_at.branch [
+    | then-is_at+else-is_at-2 w ↦ sym (and_true _ (sym c.is_at.ensures ∙ w.if-is_at.true)) ∙ sym w.is_at-then-is_at.ensures ∙ w.if-is_at-2.false
+    | else-is_at w ↦ sym (and_false _ (sym c.is_at.ensures ∙ w.if-is_at.false)) ])
