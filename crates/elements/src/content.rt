@@ -155,7 +155,7 @@ fn emptied(s: &[u8], start: Start) -> Told
 // Reads the end tag of an element, whose `</` stands at `stop`: what else it is is known by then.
 fn close(s: &[u8], table: &[u8; 256], start: Start, stop: usize, inside: Inside) -> Told
     requires name_stands { NameStands (class_in table.now) s.now start.begin start.local start.stop }
-    requires stop_value { has (is 47) s.now (stop + 1) ≡ true }
+    requires slash_stands { has (is 47) s.now (stop + 1) ≡ true }
     ensures { told_said result ≡ closing (class_in table.now) s.now start stop inside }
 {
     let r = tags::end_tag(s, table, start.begin, start.local, start.stop, stop + 2);

@@ -32,7 +32,7 @@ fn repeated(s: &[u8], b: usize, e: usize, at: usize) -> usize
 fn part(s: &[u8], table: &[u8; 256], b: usize, e: usize, at: usize) -> Place
     requires b_lt_e { b < e }
     requires e_in_bounds { e ≤ length s.now }
-    requires e_value { e ≡ ends (is_name (class_in table.now)) s.now b }
+    requires e_ends_name { e ≡ ends (is_name (class_in table.now)) s.now b }
     ensures { place_said result ≡ end_part_at (class_in table.now) s.now link_limits (part_of s.now b e) at }
 {
     let i = repeated(s, b, e, at);

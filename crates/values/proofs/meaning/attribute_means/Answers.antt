@@ -22,9 +22,6 @@ returns-in_default c = spelled_refused c.args.word.now c.loop-i.k c.loop-i.invar
 pub returns-then-k-word : goal.returns-then-k-word
 returns-then-k-word c = spelled_more c.args.word.now c.loop-i.k c.loop-i.invariant.1 _ _ (attribute_goes _ _ _ _ c.loop-i-test.true (character_is c.attribute_letter-c.ensures c.in-Whole.is)) c.if-k-word.true
 
-pub overflow_cast-word : goal.overflow_cast-word
-overflow_cast-word c = omega (arith, c.shared_slice_known-in-loop-i-1.given c.loop-i.k)
-
 pub returns-then-code-word : goal.returns-then-code-word
 returns-then-code-word c = spelled_other c.args.word.now c.loop-i.k c.loop-i.invariant.1 _ _ (attribute_goes _ _ _ _ c.loop-i-test.true (character_is c.attribute_letter-c.ensures c.in-Whole.is)) c.if-k-word.false c.if-code-word.true
 

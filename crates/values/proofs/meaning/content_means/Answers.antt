@@ -35,9 +35,6 @@ returns-in_default-c c = spelled_refused c.args.word.now c.loop-i.k c.loop-i.inv
 pub returns-then-k-word : goal.returns-then-k-word
 returns-then-k-word c = spelled_more c.args.word.now c.loop-i.k c.loop-i.invariant.1 _ _ (content_goes _ _ _ _ c.loop-i-test.true (sym c.is_at.ensures ∙ c.if-is_at.false) (character_is c.text_letter-c.ensures c.in-Whole-c.is)) c.if-k-word.true
 
-pub overflow_cast-word : goal.overflow_cast-word
-overflow_cast-word c = omega (arith, c.shared_slice_known-else-is_at-1.given c.loop-i.k)
-
 pub returns-then-code-word : goal.returns-then-code-word
 returns-then-code-word c = spelled_other c.args.word.now c.loop-i.k c.loop-i.invariant.1 _ _ (content_goes _ _ _ _ c.loop-i-test.true (sym c.is_at.ensures ∙ c.if-is_at.false) (character_is c.text_letter-c.ensures c.in-Whole-c.is)) c.if-k-word.false c.if-code-word.true
 
