@@ -99,11 +99,11 @@ module _ (class : ℕ → ℕ) (s : List ℕ) where
       ∙ r.full (omega (arith, size))
 
   module _ (b local e : ℕ) (stands : NameStands class s b local e) where
-    pub stands_alone : local ≡ b → (b < e) × ((e ≤ length s) × (e ≡ ends (is_name class) s b))
-    stands_alone q = (omega (arith, stands.last.0), (stands.within, stands.last.1 ∙ ap (ends (is_name class) s) q))
+    pub stands_alone : local ≡ b → (b < e) × (e ≤ length s) × (e ≡ ends (is_name class) s b)
+    stands_alone q = (omega (arith, stands.last.0), stands.within, stands.last.1 ∙ ap (ends (is_name class) s) q)
 
-    pub stands_first : (local ≡ b → ⊥) → (b < local - 1) × ((local - 1 ≤ length s) × (local - 1 ≡ ends (is_name class) s b))
-    stands_first two = ((stands.first two).0, (omega (arith, stands.within, stands.last.0), (stands.first two).1))
+    pub stands_first : (local ≡ b → ⊥) → (b < local - 1) × (local - 1 ≤ length s) × (local - 1 ≡ ends (is_name class) s b)
+    stands_first two = ((stands.first two).0, omega (arith, stands.within, stands.last.0), (stands.first two).1)
 
   module _ (b local e at : ℕ) (stands : NameStands class s b local e) (again : is_whole (word_at (part s b e) s at) ≡ true) where
     pub again_within : at + (e - b) ≤ length s

@@ -24,9 +24,6 @@ pub returns-in-Refused : goal.returns-in-Refused
 unfolding fresh_at
 returns-in-Refused c = stopped _ (name_is c.name-r.ensures c.in-Refused.is) ∙ went _ (room_left _ _ _ _ _ _ c.if-n-ge-MOST_ATTRIBUTES.false) ∙ went _ (place_is c.start-r.ensures c.in-Whole-r.is) ∙ went _ (place_is c.space-r.ensures c.in-Whole.is)
 
-pub known-requires : goal.known-requires
-known-requires c = (c.requires.0, c.requires.1)
-
 pub returns-then-known : goal.returns-then-known
 unfolding fresh_at
 returns-then-known c = cond_true _ (sym c.known.ensures ∙ c.if-known.true) ∙ went _ (name_is c.name-r.ensures c.in-Whole-r-2.is) ∙ went _ (room_left _ _ _ _ _ _ c.if-n-ge-MOST_ATTRIBUTES.false) ∙ went _ (place_is c.start-r.ensures c.in-Whole-r.is) ∙ went _ (place_is c.space-r.ensures c.in-Whole.is)

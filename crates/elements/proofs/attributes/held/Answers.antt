@@ -26,7 +26,7 @@ unfolding names
 loop-starts-init c = (omega arith, refl, refl, within_none _ _, c.blanks-p.ensures, left_first (attributes _ _ link_limits) _ refl)
 
 pub fresh-r-requires : goal.fresh-r-requires
-fresh-r-requires c = (c.loop-starts.invariant.0, c.loop-starts.invariant.3)
+fresh-r-requires c = record { n_bound = c.loop-starts.invariant.0; within = c.loop-starts.invariant.3 }
 
 pub returns-in_default : goal.returns-in_default
 returns-in_default c = ap place_said c.in_default.is ∙ attributes_unnamed _ _ link_limits _ _ c.loop-starts.invariant.4 c.loop-starts.invariant.5 (sym c.ends_tag.ensures ∙ c.loop-starts-test.true) (place_is c.fresh-r.ensures c.in_default.is)

@@ -11,29 +11,11 @@ use Rattle.elements.proofs.attributes.known.Goals as goal
 pub loop-k-init : goal.loop-k-init
 loop-k-init c = (omega arith, refl)
 
-pub overflow_sub-k : goal.overflow_sub-k
-overflow_sub-k c = omega arith
-
-pub offset_bounds-starts-k : goal.offset_bounds-starts-k
-offset_bounds-starts-k c = omega arith
-
-pub bounds-starts-k : goal.bounds-starts-k
-bounds-starts-k c = omega arith
-
-pub offset_bounds-stops-k : goal.offset_bounds-stops-k
-offset_bounds-stops-k c = omega arith
-
-pub bounds-stops-k : goal.bounds-stops-k
-bounds-stops-k c = omega arith
-
 pub same_part-requires : goal.same_part-requires
-same_part-requires c = c.requires.1.each (c.loop-k.k - 1) (omega arith)
+same_part-requires c = c.requires.within.each (c.loop-k.k - 1) (omega arith)
 
 pub returns-then-same_part : goal.returns-then-same_part
 returns-then-same_part c = known_yes _ _ _ _ _ c.loop-k-test.true (sym c.same_part.ensures ∙ c.if-same_part.true) ∙ c.loop-k.invariant.1
-
-pub loop-k-smaller : goal.loop-k-smaller
-loop-k-smaller c = omega arith
 
 pub loop-k-preserved : goal.loop-k-preserved
 loop-k-preserved c = (omega arith, known_no _ _ _ _ _ c.loop-k-test.true (sym c.same_part.ensures ∙ c.if-same_part.false) ∙ c.loop-k.invariant.1)

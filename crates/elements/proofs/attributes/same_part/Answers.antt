@@ -4,12 +4,12 @@ use borrow.Author.Rules.{rules}
 use mathlib.Core.Path.{◌∙◌}
 use native.Mathlib.Nat.{min-le_right}
 use native.Mathlib.Omega.{arith}
-use Rattle.message.proofs.Parts.{lesser}
 use Rattle.elements.proofs.HeldNames.{same_lent}
 use Rattle.elements.proofs.attributes.same_part.Goals as goal
+use Rattle.elements.proofs.attributes.same_part.Goals.{then-c-d, else-c-d}
 
 pub slice_bounds-called-count : goal.slice_bounds-called-count
-slice_bounds-called-count c = omega (arith, lesser c.if-c-d.branch (λ t. t.taken) (λ t. t.left), min-le_right c.args.c c.args.d)
+slice_bounds-called-count c = elim c.if-c-d.branch [ then-c-d w ↦ omega arith | else-c-d w ↦ omega arith ]
 
 pub returns : goal.returns
-returns c = c.called.ensures ∙ same_lent c.args.s.now _ c.args.c c.args.d (lesser c.if-c-d.branch (λ t. t.taken) (λ t. t.left))
+returns c = c.called.ensures ∙ same_lent c.args.s.now _ c.args.c c.args.d (elim c.if-c-d.branch [ then-c-d w ↦ omega arith | else-c-d w ↦ omega arith ])

@@ -9,10 +9,10 @@ use Rattle.elements.proofs.ContentLoop.{same_mark}
 use Rattle.elements.proofs.content.close.Goals as goal
 
 pub overflow_add-stop : goal.overflow_add-stop
-overflow_add-stop c = omega (arith, has_lt _ _ _ c.requires.1)
+overflow_add-stop c = omega (arith, has_lt _ _ _ c.requires.slash_stands)
 
 pub end_tag-r-requires : goal.end_tag-r-requires
-end_tag-r-requires c = c.requires.0
+end_tag-r-requires c = c.requires.name_stands
 
 pub returns-in-Whole : goal.returns-in-Whole
 unfolding closing

@@ -13,6 +13,7 @@ use Rattle.message.proofs.Laws.{went, stopped, has_lt, cond_true, cond_false}
 use Rattle.message.specs.Elements.{start_end_at}
 use borrow.Author.Rules.{rules}
 use Rattle.elements.proofs.content.start_end.Goals as goal
+use Rattle.elements.proofs.content.start_end.Goals.{then-empty, else-empty}
 
 -- the `>` of either kind of tag
 end_of_either : (s : List ℕ) (b : ℕ) (n : Named) (at : ℕ) (empty : Bool) {p : ℕ} → empty ≡ has (is 47) s at → p ≡ cond empty (at + 1) at → (one (is 62) s p >>= (λ i. whole (record { begin = b; name = n; from = i; empty = empty }))) ≡ start_end_at s b n at
@@ -25,8 +26,8 @@ overflow_add-stop c = omega (arith, has_lt _ _ _ (sym c.is_at-empty.ensures ∙ 
 
 pub returns-in-Whole : goal.returns-in-Whole
 returns-in-Whole c = went _ (place_is c.byte-r.ensures c.in-Whole.is)
-    ∙ end_of_either _ _ _ _ _ c.is_at-empty.ensures (⊎_elim (λ w. w.1 ∙ cond_true _ w.0.taken) (λ w. w.1 ∙ cond_false _ w.0.left) c.if-empty.branch)
+    ∙ end_of_either _ _ _ _ _ c.is_at-empty.ensures (elim c.if-empty.branch [ then-empty w ↦ w.byte-is ∙ cond_true _ w.if-empty.true | else-empty w ↦ w.byte-is ∙ cond_false _ w.if-empty.false ])
 
 pub returns-in-Refused : goal.returns-in-Refused
 returns-in-Refused c = stopped _ (place_is c.byte-r.ensures c.in-Refused.is)
-    ∙ end_of_either _ _ _ _ _ c.is_at-empty.ensures (⊎_elim (λ w. w.1 ∙ cond_true _ w.0.taken) (λ w. w.1 ∙ cond_false _ w.0.left) c.if-empty.branch)
+    ∙ end_of_either _ _ _ _ _ c.is_at-empty.ensures (elim c.if-empty.branch [ then-empty w ↦ w.byte-is ∙ cond_true _ w.if-empty.true | else-empty w ↦ w.byte-is ∙ cond_false _ w.if-empty.false ])

@@ -10,14 +10,18 @@ use Rattle.elements.proofs.EndTags.{stands_alone, stands_first}
 use Rattle.elements.proofs.tags.name.Goals as goal
 
 pub part-requires : goal.part-requires
-part-requires c = stands_alone (class_in c.args.table.now) c.args.s.now c.args.b c.args.local c.args.e c.requires c.if-local-b.true
+part-requires c =
+    let run = stands_alone (class_in c.args.table.now) c.args.s.now c.args.b c.args.local c.args.e c.requires c.if-local-b.true in
+    record { b_lt_e = run.0; e_in_bounds = run.1; e_ends_name = run.2 }
 
 pub returns-then-local-b : goal.returns-then-local-b
 unfolding end_name_at
 returns-then-local-b c = c.part.ensures ∙ cond_true _ (eq-eqb _ _ c.if-local-b.true)
 
 pub part-r-requires : goal.part-r-requires
-part-r-requires c = stands_first (class_in c.args.table.now) c.args.s.now c.args.b c.args.local c.args.e c.requires c.if-local-b.false
+part-r-requires c =
+    let run = stands_first (class_in c.args.table.now) c.args.s.now c.args.b c.args.local c.args.e c.requires c.if-local-b.false in
+    record { b_lt_e = run.0; e_in_bounds = run.1; e_ends_name = run.2 }
 
 pub returns-in_default : goal.returns-in_default
 unfolding end_name_at

@@ -8,19 +8,19 @@ use Rattle.elements.proofs.tags.repeats.Goals as goal
 pub returns-then-s-at : goal.returns-then-s-at
 returns-then-s-at c =
     let a = c.args in
-    repeats_behind a.s.now a.b a.e a.at c.requires.1 c.if-s-at.true
+    repeats_behind a.s.now a.b a.e a.at c.requires.e_in_bounds c.if-s-at.true
 
 pub returns-then-s-at-2 : goal.returns-then-s-at-2
 returns-then-s-at-2 c =
     let a = c.args in
-    repeats_long a.s.now a.b a.e a.at c.requires.1 (omega arith) (omega arith)
+    repeats_long a.s.now a.b a.e a.at c.requires.e_in_bounds (omega arith) (omega arith)
 
 pub returns-then-n-lt8 : goal.returns-then-n-lt8
 returns-then-n-lt8 c =
     let a = c.args in
-    c.few_stand.ensures ∙ repeats_same a.s.now a.b a.e a.at c.requires.1 c.requires.0 (omega arith)
+    c.few_stand.ensures ∙ repeats_same a.s.now a.b a.e a.at c.requires.e_in_bounds c.requires.b_le_e (omega arith)
 
 pub returns : goal.returns
 returns c =
     let a = c.args in
-    c.many_stand.ensures ∙ repeats_same a.s.now a.b a.e a.at c.requires.1 c.requires.0 (omega arith)
+    c.many_stand.ensures ∙ repeats_same a.s.now a.b a.e a.at c.requires.e_in_bounds c.requires.b_le_e (omega arith)
