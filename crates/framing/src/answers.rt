@@ -66,9 +66,9 @@ fn completed(limit: u32, size: u32, count: u32) -> Item
 
 // The answer to a cut of a piece, where `gathered` bytes were gathered before it.
 pub(crate) fn of_cut(limit: u32, size: usize, gathered: u32, cut: Cut) -> Answer
-    requires size_bound { size ≤ 16 }
-    requires matched_bound { cut.matched ≤ 16 }
-    requires size_bound_2 { cut.ended ≡ true → size ≤ gathered + cut.taken }
+    requires boundary_fits { size ≤ 16 }
+    requires match_fits { cut.matched ≤ 16 }
+    requires end_behind_boundary { cut.ended ≡ true → size ≤ gathered + cut.taken }
     ensures { result ≡ answered limit size gathered cut }
 {
     let taken = cut.taken;

@@ -88,8 +88,8 @@ pub fn gather(
     gathered: u32,
     matched: u32,
 ) -> Answer
-    ensures value { result ≡ answer_of link_limit boundary.now store.old piece.now gathered matched }
-    ensures store_after { store.new ≡ store_after link_limit boundary.now store.old piece.now gathered matched }
+    ensures answer { result ≡ answer_of link_limit boundary.now store.old piece.now gathered matched }
+    ensures store { store.new ≡ store_after link_limit boundary.now store.old piece.now gathered matched }
 {
     gather_within(LINK_LIMIT, boundary, store, piece, gathered, matched)
 }
@@ -103,8 +103,8 @@ fn gather_within(
     gathered: u32,
     matched: u32,
 ) -> Answer
-    ensures value { result ≡ answer_of limit boundary.now store.old piece.now gathered matched }
-    ensures store_after { store.new ≡ store_after limit boundary.now store.old piece.now gathered matched }
+    ensures answer { result ≡ answer_of limit boundary.now store.old piece.now gathered matched }
+    ensures store { store.new ≡ store_after limit boundary.now store.old piece.now gathered matched }
 {
     let size = boundary.len();
     let refusal = answers::refusal(limit, size, store.len(), gathered, matched);

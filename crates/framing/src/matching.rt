@@ -9,7 +9,7 @@ use crate::{Cut, standing};
 // Whether the first `tried` bytes of the boundary end its first `matched` bytes with `byte` put behind them.
 fn ends(boundary: &[u8], matched: usize, byte: u8, tried: usize) -> bool
     requires matched_in_bounds { matched < length boundary.now }
-    requires tried_nonzero { (0 < tried) × (tried ≤ suc matched) }
+    requires tried_in_bounds { (0 < tried) × (tried ≤ suc matched) }
     ensures { result ≡ ends_with (take tried boundary.now) (take matched boundary.now ++ (byte ∷ [])) }
 {
     let last = tried - 1;

@@ -1,7 +1,6 @@
 -- `framing::answers::completed` meets its contract: at each `return` the tests that led there say which case of `item_of` holds.
 -- Assumes nothing.
 use borrow.Author.Tests.{eq-eqb, ne_eqb, le-leb, lt-leb}
-use borrow.Author.Rules.{rules}
 use Rattle.framing.specs.Cutting.{item_of}
 use Rattle.framing.proofs.answers.completed.Goals as goal
 

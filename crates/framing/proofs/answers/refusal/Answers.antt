@@ -1,6 +1,5 @@
 -- `framing::answers::refusal` meets its contract: at each `return` the tests that led there say which case of `refusal_of` holds.
 -- Assumes nothing.
-use borrow.Author.Rules.{rules}
 use borrow.Author.Tests.{le-ltb, lt-ltb, le-leb, lt-leb}
 use Rattle.framing.specs.Cutting.{refusal_of}
 use Rattle.framing.proofs.answers.refusal.Goals as goal

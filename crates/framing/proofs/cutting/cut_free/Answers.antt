@@ -1,6 +1,5 @@
 -- `framing::cutting::cut_free` meets its contract: an item ends behind the first place at which the boundary stands, or nowhere in the piece. Assumes nothing.
 use Prim.Native.Nat.{◌+◌, ◌-◌}
-use borrow.Author.Rules.{rules}
 use native.Mathlib.Omega.{arith}
 use lib.ListN.{length}
 use Rattle.framing.proofs.Stands.{First, first_has}

@@ -1,14 +1,13 @@
 -- `framing::cutting::cut_piece` meets its contract. Where a match is held, the item ends within the piece's first bytes, or the match is forgotten after them.
 -- Assumes nothing.
 use Prim.Native.Nat.{◌-◌}
-use mathlib.Core.Logic.{⊎_elim}
 use mathlib.Core.Path.{sym, ap, ◌∙◌}
-use borrow.Author.Rules.{rules}
 use native.Mathlib.Omega.{arith}
 use lib.ListN.{length, length-take}
 use Rattle.framing.specs.Cutting.{cut_of}
 use Rattle.framing.proofs.Pieces.{seam_ended, seam_free, seam_passed}
 use Rattle.framing.proofs.cutting.cut_piece.Goals as goal
+use Rattle.framing.proofs.cutting.cut_piece.Goals.{then-held-ne0+else-cut, else-held-ne0}
 
 pub slice_bounds-scan-end : goal.slice_bounds-scan-end
 slice_bounds-scan-end c = simp length-take (omega arith)
@@ -25,9 +24,10 @@ returns c =
     let b = c.args.boundary.now in
     let p = c.args.piece.now in
     let m = c.args.held in
-    ⊎_elim
-    (λ w.
-    c.cut_free.ensures
-    ∙ seam_passed b p m (omega arith) (omega arith) (seam_free b p m (omega arith) (length b - 1) (omega arith) (rw w.2.ensures at w.3.left)))
-    (λ w. c.cut_free.ensures ∙ ap (cut_of b p) (sym w.left))
-    c.if-held-ne0.branch
+    elim c.if-held-ne0.branch [
+      | then-held-ne0+else-cut w ↦
+          c.cut_free.ensures
+          ∙ seam_passed b p m (omega arith) (omega arith)
+          (seam_free b p m (omega arith) (length b - 1) (omega arith) (rw w.scan-cut.ensures at w.if-cut.false))
+      | else-held-ne0 w ↦ c.cut_free.ensures ∙ ap (cut_of b p) (sym w.if-held-ne0.false)
+    ]

@@ -1,10 +1,9 @@
 -- `framing::cutting::tail` meets its contract. The invariant of its loop: no more than `tried` first bytes of the boundary end the piece. Assumes nothing.
-use Prim.Native.Nat.{◌<◌}
 use mathlib.Core.Path.{sym, ◌∙◌}
 use borrow.Author.Rules.{rules}
 use native.Mathlib.Omega.{arith}
 use lib.ListN.{length}
-use Rattle.framing.proofs.Borders.{NoneAbove, above_next, above_found, above_none}
+use Rattle.framing.proofs.Borders.{above_next, above_found, above_none}
 use Rattle.framing.proofs.Pieces.{tail_stands}
 use Rattle.framing.proofs.cutting.tail.Goals as goal
 

@@ -1,9 +1,8 @@
 -- `framing::matching::scan` meets its contract. The invariant of its loop is `Seen`, and the laws of `Matcher` say what a turn, an item's end and the piece's end make of it.
 -- Assumes nothing.
 use Prim.Native.Nat.{◌-◌}
-use borrow.Author.Rules.{rules}
 use lib.ListN.{length}
-use Rattle.framing.proofs.Matcher.{Seen, seen_first, seen_next, seen_done, seen_all, seen_below}
+use Rattle.framing.proofs.Matcher.{Seen}
 use Rattle.framing.proofs.matching.scan.Given as goal
 
 abbrev pub invariant-loop-i : goal.invariant-loop-i

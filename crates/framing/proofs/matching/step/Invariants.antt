@@ -1,11 +1,9 @@
 -- `framing::matching::step` meets its contract. The invariant of its loop: no more than `tried` first bytes of the boundary end the matched bytes and then `byte`.
 -- Assumes nothing.
 use Prim.Native.Nat.{suc, ◌≤◌}
-use mathlib.Core.Path.{sym, ◌∙◌}
 use mathlib.Core.List.{[], ◌∷◌, ◌++◌}
-use borrow.Author.Rules.{rules}
 use lib.ListN.{length, take}
-use Rattle.framing.proofs.Borders.{NoneAbove, above_first, above_next, above_found, above_none}
+use Rattle.framing.proofs.Borders.{NoneAbove}
 use Rattle.framing.proofs.matching.step.Given as goal
 
 abbrev pub invariant-loop-tried : goal.invariant-loop-tried

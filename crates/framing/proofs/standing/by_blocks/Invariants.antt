@@ -1,11 +1,7 @@
 -- `framing::standing::by_blocks` meets its contract. The invariant of its loop: the boundary stands at no place below i. A block that is not worth a closer look has
 -- none (`block_free`), and of one that is, `one_by_one` says so. Assumes nothing.
-use Prim.Native.Nat.{◌+◌, ◌-◌, ◌≤◌}
-use mathlib.Core.Path.{◌≡◌, sym, ◌∙◌}
-use borrow.Author.Rules.{rules}
-use native.Mathlib.Omega.{arith}
-use Rattle.framing.specs.Standing.{block_places}
-use Rattle.framing.proofs.Stands.{NoneFrom, First, none_on, block_free, first_is, first_has, first_nowhere}
+use Prim.Native.Nat.{◌-◌, ◌≤◌}
+use Rattle.framing.proofs.Stands.{NoneFrom}
 use Rattle.framing.proofs.standing.by_blocks.Given as goal
 
 abbrev pub invariant-loop-i : goal.invariant-loop-i

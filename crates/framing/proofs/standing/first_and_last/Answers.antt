@@ -1,6 +1,6 @@
 -- `framing::standing::first_and_last` meets its contract. The invariant of its loop: `found` says whether the pair stands at one of the block's first i places.
 -- Assumes nothing.
-use Prim.Native.Nat.{◌+◌, ◌-◌, ◌≤◌}
+use Prim.Native.Nat.{◌+◌, ◌-◌}
 use mathlib.Core.Path.{◌≡◌}
 use borrow.Author.Rules.{rules}
 use native.Mathlib.Omega.{arith}
@@ -8,6 +8,10 @@ use lib.ListN.{length}
 use Rattle.framing.specs.Standing.{pair_at, some_below, block_places}
 use Rattle.framing.proofs.Stands.{some_more}
 use Rattle.framing.proofs.standing.first_and_last.Goals as goal
+
+pub loop-i-init : goal.loop-i-init
+unfolding some_below
+loop-i-init c = search rules
 
 pub loop-i-preserved : goal.loop-i-preserved
 loop-i-preserved c =

@@ -1,5 +1,5 @@
 -- `framing::standing::first_and_middle` meets its contract, with the invariant of `first_and_last`. Assumes nothing.
-use Prim.Native.Nat.{◌+◌, ◌-◌, ◌/◌, ◌≤◌}
+use Prim.Native.Nat.{◌+◌, ◌/◌}
 use mathlib.Core.Path.{◌≡◌}
 use borrow.Author.Rules.{rules}
 use native.Mathlib.Omega.{arith}
@@ -7,6 +7,10 @@ use lib.ListN.{length}
 use Rattle.framing.specs.Standing.{pair_at, some_below, block_places}
 use Rattle.framing.proofs.Stands.{some_more}
 use Rattle.framing.proofs.standing.first_and_middle.Goals as goal
+
+pub loop-i-init : goal.loop-i-init
+unfolding some_below
+loop-i-init c = search rules
 
 pub loop-i-preserved : goal.loop-i-preserved
 loop-i-preserved c =

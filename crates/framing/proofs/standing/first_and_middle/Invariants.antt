@@ -1,11 +1,7 @@
 -- `framing::standing::first_and_middle` meets its contract, with the invariant of `first_and_last`. Assumes nothing.
-use Prim.Native.Nat.{◌+◌, ◌-◌, ◌/◌, ◌≤◌}
+use Prim.Native.Nat.{◌+◌, ◌-◌, ◌≤◌}
 use mathlib.Core.Path.{◌≡◌}
-use borrow.Author.Rules.{rules}
-use native.Mathlib.Omega.{arith}
-use lib.ListN.{length}
 use Rattle.framing.specs.Standing.{pair_at, some_below, block_places}
-use Rattle.framing.proofs.Stands.{some_more}
 use Rattle.framing.proofs.standing.first_and_middle.Given as goal
 
 abbrev pub invariant-loop-i : goal.invariant-loop-i

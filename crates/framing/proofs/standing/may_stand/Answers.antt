@@ -2,8 +2,6 @@
 use Prim.Native.Nat.{◌/◌}
 use mathlib.Core.Path.{sym, ap, ◌∙◌}
 use mathlib.Core.Bool.{Bool, ◌&&◌}
-use borrow.Author.Tests.{not-true, not-false}
-use borrow.Author.Rules.{rules}
 use lib.ListN.{length}
 use Rattle.framing.specs.Standing.{pair_in}
 use Rattle.framing.proofs.standing.may_stand.Goals as goal

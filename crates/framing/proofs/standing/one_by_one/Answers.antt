@@ -1,9 +1,9 @@
 -- `framing::standing::one_by_one` meets its contract. The invariant of its loop: the boundary stands at none of the places from `from` on and below `at`. Assumes nothing.
-use Prim.Native.Nat.{◌+◌, ◌-◌, ◌≤◌}
+use Prim.Native.Nat.{◌+◌}
 use mathlib.Core.Path.{◌≡◌, sym, ◌∙◌}
 use borrow.Author.Rules.{rules}
 use native.Mathlib.Omega.{arith}
-use Rattle.framing.proofs.Stands.{NoneFrom, none_on, none_one, first_is}
+use Rattle.framing.proofs.Stands.{none_on, none_one, first_is}
 use Rattle.framing.proofs.standing.one_by_one.Goals as goal
 
 pub loop-at-init : goal.loop-at-init

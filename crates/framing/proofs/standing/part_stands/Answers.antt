@@ -1,6 +1,6 @@
 -- `framing::standing::part_stands` meets its contract. The invariant of its loop: i is at most `count`, and the bytes at each place below i are the same. Assumes nothing.
-use Prim.Native.Nat.{ℕ, ◌+◌, ◌-◌, ◌≤◌, ◌<◌}
-use mathlib.Core.Path.{◌≡◌, sym, ap, ◌∙◌}
+use Prim.Native.Nat.{ℕ}
+use mathlib.Core.Path.{sym, ap, ◌∙◌}
 use borrow.Author.Rules.{rules}
 use borrow.Author.Count.{below_more, below_none}
 use native.Mathlib.Omega.{arith}

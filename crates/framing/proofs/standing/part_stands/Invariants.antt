@@ -1,12 +1,7 @@
 -- `framing::standing::part_stands` meets its contract. The invariant of its loop: i is at most `count`, and the bytes at each place below i are the same. Assumes nothing.
 use Prim.Native.Nat.{ℕ, ◌+◌, ◌-◌, ◌≤◌, ◌<◌}
-use mathlib.Core.Path.{◌≡◌, sym, ap, ◌∙◌}
-use borrow.Author.Rules.{rules}
-use borrow.Author.Count.{below_more, below_none}
-use native.Mathlib.Omega.{arith}
-use native.Mathlib.Nat.{zero-add}
+use mathlib.Core.Path.{◌≡◌}
 use lib.ListN.{get_or}
-use Rattle.laws.proofs.Same.{all_same, one_other}
 use Rattle.framing.proofs.standing.part_stands.Given as goal
 
 abbrev pub invariant-loop-i : goal.invariant-loop-i

@@ -1,9 +1,7 @@
 -- `framing::store::lay` meets its contract: its loop copies (`laws`, `Copies`).
 -- Assumes nothing.
 use Prim.Native.Nat.{◌-◌}
-use borrow.Author.Rules.{rules}
-use native.Mathlib.Omega.{arith}
-use Rattle.laws.proofs.Copies.{Copied, copied_first, copied_next, copied_all}
+use Rattle.laws.proofs.Copies.{Copied}
 use Rattle.framing.proofs.store.lay.Given as goal
 
 abbrev pub invariant-loop-i : goal.invariant-loop-i
