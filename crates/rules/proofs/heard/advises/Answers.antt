@@ -1,5 +1,4 @@
 -- `rules::heard::advises` meets its contract, by the kind of advice. Assumes nothing.
-use Rattle.std.proofs.Common.{rules}
 use Rattle.rules.proofs.heard.advises.Goals as goal
 
 pub returns-in-UnreadableMessage : goal.returns-in-UnreadableMessage

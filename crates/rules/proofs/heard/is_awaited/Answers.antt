@@ -1,5 +1,5 @@
 -- `rules::heard::is_awaited` meets its contract: one number at most is awaited. Assumes nothing.
-use Rattle.std.proofs.Common.{sym, rules}
+use Rattle.std.proofs.Common.{sym}
 use mathlib.Core.Bool.{or-false}
 use Rattle.rules.proofs.heard.is_awaited.Goals as goal
 

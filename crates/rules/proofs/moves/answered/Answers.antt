@@ -1,5 +1,4 @@
 -- `rules::moves::answered` meets its contract, status by status. Assumes nothing.
-use Rattle.std.proofs.Common.{rules}
 use Rattle.rules.proofs.moves.answered.Goals as goal
 
 pub returns-in-Ok : goal.returns-in-Ok

@@ -1,5 +1,4 @@
 -- `rules::moves::stop` meets its contract, state by state. Assumes nothing.
-use Rattle.std.proofs.Common.{rules}
 use Rattle.rules.proofs.moves.stop.Goals as goal
 
 pub returns-in-Waiting : goal.returns-in-Waiting

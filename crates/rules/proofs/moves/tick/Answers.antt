@@ -1,5 +1,4 @@
 -- `rules::moves::tick` meets its contract, state by state. Assumes nothing.
-use Rattle.std.proofs.Common.{rules}
 use Rattle.rules.proofs.moves.tick.Goals as goal
 
 pub returns-in-Waiting : goal.returns-in-Waiting

@@ -1,5 +1,5 @@
 -- `rules::moves::tick_confirming` meets its contract: the test says whether this is the 20th tick. Assumes nothing.
-use Rattle.std.proofs.Common.{rules, le-ltb, lt-ltb}
+use Rattle.std.proofs.Common.{le-ltb, lt-ltb}
 use Rattle.rules.proofs.moves.tick_confirming.Goals as goal
 
 pub returns-then-age-lt-LAST_AGE : goal.returns-then-age-lt-LAST_AGE

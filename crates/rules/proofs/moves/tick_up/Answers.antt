@@ -1,6 +1,6 @@
 -- `rules::moves::tick_up` meets its contract: an open SessionOk has the time that it was sent before, and no other is due.
 -- Assumes nothing.
-use Rattle.std.proofs.Common.{rules, le-ltb, lt-ltb}
+use Rattle.std.proofs.Common.{le-ltb, lt-ltb}
 use Rattle.rules.proofs.moves.tick_up.Goals as goal
 
 pub returns-in-Nothing : goal.returns-in-Nothing

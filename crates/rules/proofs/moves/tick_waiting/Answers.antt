@@ -1,5 +1,5 @@
 -- `rules::moves::tick_waiting` meets its contract: the test says whether ticks are left. Assumes nothing.
-use Rattle.std.proofs.Common.{rules, le-ltb, lt-ltb}
+use Rattle.std.proofs.Common.{le-ltb, lt-ltb}
 use Rattle.rules.proofs.moves.tick_waiting.Goals as goal
 
 pub returns-then-left-gt1 : goal.returns-then-left-gt1

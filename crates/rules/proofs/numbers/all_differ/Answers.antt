@@ -1,6 +1,5 @@
 -- `rules::numbers::all_differ` meets its contract: no number that is left comes twice just if none of all does. Assumes nothing.
-use Rattle.std.proofs.Common.{◌≡◌, ◌-◌, length, drop, sym, refl, ◌∙◌, arith}
-use Rattle.conduct.specs.Lists.{distinct}
+use Rattle.std.proofs.Common.{sym, refl, ◌∙◌, arith}
 use Rattle.conduct.proofs.Loops.{distinct_not, distinct_later, distinct_end}
 use Rattle.rules.proofs.numbers.all_differ.Goals as goal
 

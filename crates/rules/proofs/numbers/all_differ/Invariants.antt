@@ -1,7 +1,6 @@
 -- `rules::numbers::all_differ` meets its contract: no number that is left comes twice just if none of all does. Assumes nothing.
-use Rattle.std.proofs.Common.{◌≡◌, ◌-◌, length, drop, sym, refl, ◌∙◌, arith}
+use Rattle.std.proofs.Common.{◌≡◌, ◌-◌, length, drop}
 use Rattle.conduct.specs.Lists.{distinct}
-use Rattle.conduct.proofs.Loops.{distinct_not, distinct_later, distinct_end}
 use Rattle.rules.proofs.numbers.all_differ.Given as goal
 
 abbrev pub invariant-loop-i : goal.invariant-loop-i

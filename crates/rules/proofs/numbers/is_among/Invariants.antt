@@ -1,7 +1,6 @@
 -- `rules::numbers::is_among` meets its contract: the number is among those that are left just if it is among all. Assumes nothing.
-use Rattle.std.proofs.Common.{◌≡◌, ◌-◌, length, drop, sym, refl, ◌∙◌, arith, eq-eqb, ne_eqb}
+use Rattle.std.proofs.Common.{◌≡◌, ◌-◌, length, drop}
 use Rattle.conduct.specs.Lists.{among}
-use Rattle.conduct.proofs.Loops.{some_here, some_later, some_end}
 use Rattle.rules.proofs.numbers.is_among.Given as goal
 
 abbrev pub invariant-loop-i : goal.invariant-loop-i

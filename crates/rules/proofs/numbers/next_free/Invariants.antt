@@ -1,8 +1,6 @@
 -- `rules::numbers::next_free` meets its contract: what is left of the search comes to what the whole search does. Assumes nothing.
-use Rattle.std.proofs.Common.{◌≡◌, ℕ, ◌-◌, length, sym, ap, ◌∙◌, arith}
-use borrow.Author.Tests.{not-true, not-false}
+use Rattle.std.proofs.Common.{◌≡◌}
 use Rattle.conduct.specs.Numbers.{free_from, next_free}
-use Rattle.rules.proofs.Searching.{free_here, free_later, free_last}
 use Rattle.rules.proofs.numbers.next_free.Given as goal
 
 abbrev pub invariant-loop-left : goal.invariant-loop-left

@@ -1,5 +1,5 @@
 -- `rules::pushes::again_or` meets its contract. Assumes nothing.
-use Rattle.std.proofs.Common.{◌≡◌, ◌≤◌, true, leb, sym, ◌∙◌, rules, leb-true}
+use Rattle.std.proofs.Common.{◌≡◌, ◌≤◌, true, leb, sym, ◌∙◌, leb-true}
 use Rattle.message.proofs.Laws.{both_second}
 use Rattle.conduct.specs.Pushes.{is_response, may_go_again}
 use Rattle.conduct.specs.declared.Push.{Push}

@@ -1,5 +1,5 @@
 -- `rules::pushes::fate_of` meets its contract, sweep by sweep and test by test. Assumes nothing.
-use Rattle.std.proofs.Common.{rules, eq-eqb, ne_eqb}
+use Rattle.std.proofs.Common.{eq-eqb, ne_eqb}
 use Rattle.rules.proofs.pushes.fate_of.Goals as goal
 
 pub returns-in-Still : goal.returns-in-Still

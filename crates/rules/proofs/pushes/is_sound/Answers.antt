@@ -1,5 +1,5 @@
 -- `rules::pushes::is_sound` meets its contract: each test that passes leaves the next. Assumes nothing.
-use Rattle.std.proofs.Common.{◌<◌, ◌≤◌, ◌∙◌, arith, rules, le-leb}
+use Rattle.std.proofs.Common.{◌<◌, ◌≤◌, ◌∙◌, arith, le-leb}
 use Rattle.conduct.specs.Sound.{most_sendings}
 use borrow.Author.Tests.{lt-leb}
 use Rattle.message.proofs.Laws.{and_true, and_false}

@@ -1,6 +1,6 @@
 -- `rules::pushes::may_go_again` meets its contract: each test that passes leaves the next. Assumes nothing.
-use Rattle.std.proofs.Common.{sym, ◌∙◌, rules, le-leb}
-use borrow.Author.Tests.{lt-leb, not-true, not-false}
+use Rattle.std.proofs.Common.{sym, ◌∙◌, le-leb}
+use borrow.Author.Tests.{lt-leb}
 use Rattle.message.proofs.Laws.{and_true, and_false}
 use Rattle.rules.proofs.pushes.may_go_again.Goals as goal
 

@@ -1,5 +1,4 @@
 -- `rules::pushes::most_again` meets its contract, by what is pushed. Assumes nothing.
-use Rattle.std.proofs.Common.{rules}
 use Rattle.rules.proofs.pushes.most_again.Goals as goal
 
 pub returns-in-Response : goal.returns-in-Response

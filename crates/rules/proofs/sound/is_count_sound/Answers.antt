@@ -1,5 +1,5 @@
 -- `rules::sound::is_count_sound` meets its contract. Assumes nothing.
-use Rattle.std.proofs.Common.{sym, ◌∙◌, rules}
+use Rattle.std.proofs.Common.{sym, ◌∙◌}
 use Rattle.message.proofs.Laws.{or_false}
 use Rattle.rules.proofs.sound.is_count_sound.Goals as goal
 

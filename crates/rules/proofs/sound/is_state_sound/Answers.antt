@@ -1,5 +1,4 @@
 -- `rules::sound::is_state_sound` meets its contract, state by state. Assumes nothing.
-use Rattle.std.proofs.Common.{rules}
 use Rattle.rules.proofs.sound.is_state_sound.Goals as goal
 
 pub returns-in-Waiting : goal.returns-in-Waiting

@@ -1,5 +1,4 @@
 -- `rules::sound::is_up_sound` meets its contract. Assumes nothing.
-use Rattle.std.proofs.Common.{rules}
 use Rattle.rules.proofs.sound.is_up_sound.Goals as goal
 
 pub returns-in-Nothing : goal.returns-in-Nothing

@@ -1,5 +1,4 @@
 -- `rules::states::fits` meets its contract, call by call. Assumes nothing.
-use Rattle.std.proofs.Common.{rules}
 use Rattle.rules.proofs.states.fits.Goals as goal
 
 pub returns-in-Lost : goal.returns-in-Lost

@@ -1,5 +1,5 @@
 -- `rules::states::fits_unreadable` meets its contract: the state is tested first, then the number. Assumes nothing.
-use Rattle.std.proofs.Common.{sym, ◌∙◌, rules}
+use Rattle.std.proofs.Common.{sym, ◌∙◌}
 use Rattle.rules.proofs.states.fits_unreadable.Goals as goal
 
 pub returns-then-is_linked : goal.returns-then-is_linked
