@@ -15,9 +15,9 @@ pub extern "C" fn ali_gather(
     matched: u32,
     answer: &mut [u64],
 ) -> u32
-    ensures value { result ≡ gather_refusal boundary.now store.old gathered matched answer.old }
-    ensures store_after { store.new ≡ gather_store boundary.now store.old piece.now gathered matched answer.old }
-    ensures answer_after { answer.new ≡ gather_list boundary.now store.old piece.now gathered matched answer.old }
+    ensures number { result ≡ gather_refusal boundary.now store.old gathered matched answer.old }
+    ensures store { store.new ≡ gather_store boundary.now store.old piece.now gathered matched answer.old }
+    ensures list { answer.new ≡ gather_list boundary.now store.old piece.now gathered matched answer.old }
 {
     if answer.len() < lists::PLACES {
         return 3;

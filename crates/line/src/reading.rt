@@ -113,8 +113,8 @@ fn write_refusal(list: &mut [u64], number: u32, place: usize)
 // Returns 0, or 3 where the list is too short. The refusals of the reader are answers: the first 28 places say which, or what was read.
 #[unsafe(no_mangle)]
 pub extern "C" fn ali_read(message: &[u8], answer: &mut [u64]) -> u32
-    ensures value { result ≡ read_return answer.old }
-    ensures answer_after { answer.new ≡ read_list message.now answer.old }
+    ensures number { result ≡ read_return answer.old }
+    ensures list { answer.new ≡ read_list message.now answer.old }
 {
     if answer.len() < lists::PLACES {
         return 3;

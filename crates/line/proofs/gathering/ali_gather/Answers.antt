@@ -9,15 +9,18 @@ use Rattle.line.proofs.gathering.ali_gather.Goals as goal
 pub returns-then-answer-lt-PLACES : goal.returns-then-answer-lt-PLACES
 returns-then-answer-lt-PLACES c =
     let a = c.args in
-    list_short a.boundary.now a.store.now a.piece.now a.gathered a.matched a.answer.now (lt-ltb _ _ c.if-answer-lt-PLACES.true)
+    let short = list_short a.boundary.now a.store.now a.piece.now a.gathered a.matched a.answer.now (lt-ltb _ _ c.if-answer-lt-PLACES.true) in
+    record { number = short.0; store = short.1.0; list = short.1.1 }
 
 pub returns-then-refusal-ne0 : goal.returns-then-refusal-ne0
 returns-then-refusal-ne0 c =
-    let a = c.args in
     let g = c.gather-said in
+    let a = c.args in
+    let refused =
     call_refused a.boundary.now a.store.now a.piece.now a.gathered a.matched a.answer.now
     (le-ltb _ _ c.if-answer-lt-PLACES.false)
-    g.result g.ensures.0 g.new.1.0 g.ensures.1 c.if-refusal-ne0.true
+    g.result g.ensures.answer g.new.store g.ensures.store c.if-refusal-ne0.true in
+    record { number = refused.0; store = refused.1.0; list = refused.1.1 }
 
 pub returns : goal.returns
 returns c =
@@ -26,5 +29,5 @@ returns c =
     let said =
     call_answered a.boundary.now a.store.now a.piece.now a.gathered a.matched a.answer.now
     (le-ltb _ _ c.if-answer-lt-PLACES.false)
-    g.result g.ensures.0 g.new.1.0 g.ensures.1 c.if-refusal-ne0.false in
-    (said.0, (said.1.0, rw (c.number.ensures, c.length.ensures) at c.write.ensures ∙ said.1.1))
+    g.result g.ensures.answer g.new.store g.ensures.store c.if-refusal-ne0.false in
+    record { number = said.0; store = said.1.0; list = rw (c.number.ensures, c.length.ensures) at c.write.ensures ∙ said.1.1 }
