@@ -7,7 +7,7 @@ use native.Mathlib.Omega.{arith}
 use lib.ListN.{length}
 use Rattle.laws.proofs.Tests.{true_false}
 use Rattle.message.specs.Class.{class_of}
-use Rattle.message.specs.Reading.{Reading, is_quote, is, has, one, ends, byte_at, equals_at, opened_at}
+use Rattle.message.specs.Reading.{Reading, is_quote, is, has, one, byte_at, equals_at, opened_at}
 use Rattle.message.specs.Reading.Reading.{whole}
 use Rattle.message.specs.Names.{Named}
 use Rattle.message.specs.Text.{value_at}

@@ -1,6 +1,5 @@
 -- `elements::attributes::attributes` meets its contract: a tag that ends there has no attributes, and for any other `held` reads them. Assumes
 -- nothing.
-use borrow.Author.Rules.{rules}
 use mathlib.Core.Path.{sym, ◌∙◌}
 use Rattle.message.specs.Limits.{link_limits}
 use Rattle.elements.proofs.AttributeLaws.{attributes_none}

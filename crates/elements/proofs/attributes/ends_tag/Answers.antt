@@ -1,5 +1,4 @@
 -- `elements::attributes::ends_tag` meets its contract: one of the two bytes stands there, or neither does. Assumes nothing.
-use borrow.Author.Rules.{rules}
 use mathlib.Core.Path.{sym, ◌∙◌}
 use Rattle.elements.proofs.AttributeLaws.{ends_there, ends_else}
 use Rattle.elements.proofs.attributes.ends_tag.Goals as goal

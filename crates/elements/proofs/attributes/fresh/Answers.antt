@@ -1,6 +1,5 @@
 -- `elements::attributes::fresh` meets its contract: white space, a byte that begins a name, room for one more, and a name that is none of those
 -- before it are asked for in the order of the specification. Assumes nothing.
-use borrow.Author.Rules.{rules}
 use mathlib.Core.Path.{sym, ◌∙◌}
 use Rattle.message.specs.Elements.{fresh_at}
 use Rattle.scan.proofs.Said.{place_is, name_is, handed}

@@ -1,21 +1,14 @@
 -- `elements::attributes::held` meets its contract: the first n entries of the two arrays are where the names read so far stand, the last first, and
 -- from the place that the loop has come to, beside those names, the specification gives what it gave at the start. Assumes nothing.
-use Prim.Native.Nat.{◌-◌, ◌≤◌}
-use mathlib.Core.Path.{◌≡◌, refl, sym, ◌∙◌, ap}
-use mathlib.Core.List.{[]}
+use mathlib.Core.Path.{refl, sym, ◌∙◌, ap}
 use native.Mathlib.Omega.{arith}
-use lib.ListN.{length, length-set}
-use borrow.Author.Tests.{not-true, not-false}
-use borrow.Author.Rules.{rules}
-use Rattle.message.specs.Class.{class_in}
-use Rattle.message.specs.Reading.{blanks}
+use lib.ListN.{length-set}
 use Rattle.scan.specs.Answers.{place_said}
 use Rattle.scan.proofs.Said.{place_is}
 use Rattle.message.proofs.Laws.{ends_after}
-use Rattle.message.proofs.Loops.{Left, left_first}
+use Rattle.message.proofs.Loops.{left_first}
 use Rattle.message.specs.Limits.{link_limits}
-use Rattle.message.specs.Elements.{attributes_at}
-use Rattle.elements.specs.Held.{names, Within}
+use Rattle.elements.specs.Held.{names}
 use Rattle.message.proofs.Trees.{quoted_on}
 use Rattle.elements.proofs.AttributeLaws.{span_is, left_held, fresh_held_lem, attributes, attributes_done, attributes_unnamed, attributes_no_value, attributes_on}
 use Rattle.elements.proofs.HeldNames.{within_none, within_more}

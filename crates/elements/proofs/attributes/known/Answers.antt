@@ -1,10 +1,8 @@
 -- `elements::attributes::known` meets its contract: the loop goes down from the last name, and none that it has passed is the one that is asked for.
 -- Assumes nothing.
-use Prim.Native.Nat.{◌-◌, ◌≤◌}
-use mathlib.Core.Path.{◌≡◌, refl, sym, ◌∙◌}
+use Prim.Native.Nat.{◌-◌}
+use mathlib.Core.Path.{refl, sym, ◌∙◌}
 use native.Mathlib.Omega.{arith}
-use Rattle.message.specs.Elements.{part, is_known}
-use Rattle.elements.specs.Held.{names}
 use Rattle.elements.proofs.HeldNames.{known_no, known_yes, known_none}
 use Rattle.elements.proofs.attributes.known.Goals as goal
 

@@ -1,6 +1,5 @@
 -- `elements::attributes::quoted` meets its contract: the opening quotation mark and then the value up to its like are read as the specification
 -- reads them. Assumes nothing.
-use borrow.Author.Rules.{rules}
 use mathlib.Core.Path.{◌∙◌}
 use native.Mathlib.Omega.{arith}
 use Rattle.message.specs.Elements.{quoted_at}

@@ -1,8 +1,6 @@
 -- `elements::attributes::same_part` meets its contract: a part that would begin behind its end is empty, and so is the one that begins at its end.
 -- Assumes nothing.
-use borrow.Author.Rules.{rules}
 use mathlib.Core.Path.{◌∙◌}
-use native.Mathlib.Nat.{min-le_right}
 use native.Mathlib.Omega.{arith}
 use Rattle.elements.proofs.HeldNames.{same_lent}
 use Rattle.elements.proofs.attributes.same_part.Goals as goal

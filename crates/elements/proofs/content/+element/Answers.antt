@@ -1,21 +1,15 @@
 -- `elements::content::element` meets its contract. The levels that are left fall where it calls itself. The loop keeps, from each place that it comes to and with what it holds on to by then, what the definition gives from the start of the content. Assumes nothing.
-use borrow.Author.Rules.{rules}
-use Prim.Native.Nat.{ℕ, ◌<◌}
-use Prim.Native.Nat.{◌-◌, ◌≤◌}
 use mathlib.Core.Path.{sym, ◌∙◌, ap}
 use native.Mathlib.Omega.{arith}
-use lib.ListN.{length}
-use Rattle.message.specs.Class.{class_in}
 use Rattle.scan.proofs.Said.{place_is}
 use Rattle.message.proofs.Laws.{went, stopped}
 use Rattle.message.specs.Limits.{link_limits}
-use Rattle.message.specs.Elements.{element_at}
-use Rattle.elements.specs.Seen.{nothing_inside, seen, told_said}
+use Rattle.elements.specs.Seen.{seen, told_said}
 use Rattle.elements.specs.declared.Inside.{Inside}
 use Rattle.elements.proofs.EndTags.{name_stands}
 use Rattle.message.proofs.Facts.{start_starts}
 use Rattle.message.proofs.Trees.{free_whole}
-use Rattle.elements.proofs.ContentLoop.{ContentLeft, reads_content, content_first, content_refused, content_closed, content_child_refused, content_child, seen_on, emptied_is, element_none, element_some, element_asked, started_is}
+use Rattle.elements.proofs.ContentLoop.{content_first, content_refused, content_closed, content_child_refused, content_child, seen_on, emptied_is, element_none, element_some, element_asked, started_is}
 use Rattle.elements.proofs.content.+element.Goals as goal
 
 pub returns-then-depth-eq0 : goal.returns-then-depth-eq0

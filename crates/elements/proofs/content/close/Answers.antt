@@ -1,5 +1,4 @@
 -- `elements::content::close` meets its contract: the end tag, and with it all that is held on to of the element. Assumes nothing.
-use borrow.Author.Rules.{rules}
 use mathlib.Core.Path.{◌∙◌}
 use native.Mathlib.Omega.{arith}
 use Rattle.scan.proofs.Said.{place_is}

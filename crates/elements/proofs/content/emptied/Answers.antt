@@ -1,5 +1,4 @@
 -- `elements::content::emptied` meets its contract: the mark and the empty inside are those that are asked for. Assumes nothing.
-use borrow.Author.Rules.{rules}
 use Rattle.elements.proofs.content.emptied.Goals as goal
 
 pub returns : goal.returns

@@ -1,7 +1,6 @@
 -- `elements::content::free` meets its contract: plain text that a tag ends is all that is read, and else it is read on behind it. Assumes nothing.
 use mathlib.Core.Path.{sym, ◌∙◌}
 use Rattle.elements.proofs.FirstLooks.{free_plain, free_behind}
-use borrow.Author.Rules.{rules}
 use Rattle.elements.proofs.content.free.Goals as goal
 
 pub returns-then-tag_at : goal.returns-then-tag_at

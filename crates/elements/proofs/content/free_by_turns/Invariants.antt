@@ -1,17 +1,9 @@
 -- `elements::content::free_by_turns` meets its contract: from each place that the loop comes to, with fuel that is enough, the definition gives what it gave at the start. Assumes nothing.
-use borrow.Author.Rules.{rules}
 use Prim.Native.Nat.{◌-◌}
-use mathlib.Core.Path.{refl, sym, ◌∙◌}
-use native.Mathlib.Omega.{arith}
-use borrow.Author.Tests.{not-true, not-false}
 use lib.ListN.{length}
 use Rattle.message.specs.Class.{class_in}
-use Rattle.scan.proofs.Said.{place_is, handed}
-use Rattle.message.proofs.Laws.{went, cond_true, cond_false}
-use Rattle.message.proofs.Loops.{Left, left_first, left_on, left_done}
-use Rattle.message.proofs.MarkupLoop.{bang_on}
+use Rattle.message.proofs.Loops.{Left}
 use Rattle.message.specs.Elements.{free_at}
-use Rattle.message.proofs.Trees.{text_whole}
 use Rattle.elements.proofs.FreeLoop.{frees}
 use Rattle.elements.proofs.content.free_by_turns.Given as goal
 

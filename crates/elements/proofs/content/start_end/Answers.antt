@@ -1,7 +1,6 @@
 -- `elements::content::start_end` meets its contract: behind a `/` the `>` stands one place on. Assumes nothing.
 use Prim.Native.Nat.{ℕ, ◌+◌}
 use mathlib.Core.Path.{◌≡◌, sym, ◌∙◌}
-use mathlib.Core.Logic.{⊎_elim}
 use mathlib.Core.Bool.{Bool, true, false, cond}
 use mathlib.Core.List.{List}
 use native.Mathlib.Omega.{arith}
@@ -11,7 +10,6 @@ use Rattle.message.specs.Names.{Named}
 use Rattle.scan.proofs.Said.{place_is}
 use Rattle.message.proofs.Laws.{went, stopped, has_lt, cond_true, cond_false}
 use Rattle.message.specs.Elements.{start_end_at}
-use borrow.Author.Rules.{rules}
 use Rattle.elements.proofs.content.start_end.Goals as goal
 use Rattle.elements.proofs.content.start_end.Goals.{then-empty, else-empty}
 

@@ -1,5 +1,4 @@
 -- `elements::content::start_tag` meets its contract: a `<`, a name, and what follows it. Assumes nothing.
-use borrow.Author.Rules.{rules}
 use mathlib.Core.Path.{◌∙◌}
 use Rattle.scan.proofs.Said.{place_is, name_is}
 use Rattle.message.proofs.Laws.{went, stopped}

@@ -2,9 +2,7 @@
 use mathlib.Core.Path.{sym, ◌∙◌, ap}
 use mathlib.Core.Bool.{not}
 use native.Mathlib.Omega.{arith}
-use borrow.Author.Tests.{not-true, not-false}
 use Rattle.message.proofs.Laws.{and_true, and_false, has_lt}
-use borrow.Author.Rules.{rules}
 use Rattle.elements.proofs.content.tag_at.Goals as goal
 
 pub returns-then-not-is_at : goal.returns-then-not-is_at

@@ -1,5 +1,4 @@
 -- `elements::content::too_deep` meets its contract: a byte that begins a name calls for refusal 10. Assumes nothing.
-use borrow.Author.Rules.{rules}
 use mathlib.Core.Path.{sym, ◌∙◌}
 use Rattle.scan.proofs.Said.{place_is}
 use Rattle.message.proofs.Laws.{went, stopped}

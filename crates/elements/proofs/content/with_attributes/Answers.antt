@@ -1,5 +1,4 @@
 -- `elements::content::with_attributes` meets its contract: the attributes, and then the end of the tag. Assumes nothing.
-use borrow.Author.Rules.{rules}
 use mathlib.Core.Path.{◌∙◌}
 use Rattle.scan.proofs.Said.{place_is}
 use Rattle.message.proofs.Laws.{went, stopped}

@@ -3,7 +3,6 @@ use mathlib.Core.Path.{sym, ◌∙◌}
 use native.Mathlib.Omega.{arith}
 use Rattle.message.proofs.Laws.{both_first, has_lt}
 use Rattle.elements.proofs.FirstLooks.{name_alone}
-use borrow.Author.Rules.{rules}
 use Rattle.elements.proofs.content.with_name.Goals as goal
 
 pub overflow_add-result : goal.overflow_add-result

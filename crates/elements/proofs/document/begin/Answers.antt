@@ -1,5 +1,4 @@
 -- `elements::document::begin` meets its contract: each test leads to its case. Assumes nothing.
-use borrow.Author.Rules.{rules}
 use mathlib.Core.Path.{sym, ◌∙◌, ap}
 use borrow.Author.Tests.{eq-eqb, ne_eqb}
 use Rattle.message.specs.Reading.Reading.{whole}

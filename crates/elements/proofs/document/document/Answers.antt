@@ -1,5 +1,4 @@
 -- `elements::document::document` meets its contract: 8 before all else, then the declaration, then the root. Assumes nothing.
-use borrow.Author.Rules.{rules}
 use mathlib.Core.Path.{◌∙◌, ap}
 use borrow.Author.Tests.{lt-ltb, le-ltb}
 use Rattle.scan.proofs.Said.{place_is}

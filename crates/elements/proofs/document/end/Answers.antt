@@ -1,5 +1,4 @@
 -- `elements::document::end` meets its contract: a `<` is refused at the byte behind it, and any other byte at its place. Assumes nothing.
-use borrow.Author.Rules.{rules}
 use mathlib.Core.Path.{sym, ◌∙◌}
 use native.Mathlib.Omega.{arith}
 use borrow.Author.Tests.{lt-ltb, le-ltb}

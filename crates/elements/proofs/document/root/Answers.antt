@@ -1,5 +1,4 @@
 -- `elements::document::root` meets its contract: what stands before the root, the root, what stands behind it, and the end of the message. Assumes nothing.
-use borrow.Author.Rules.{rules}
 use mathlib.Core.Path.{sym, ◌∙◌, ap}
 use Rattle.scan.proofs.Said.{place_is}
 use Rattle.message.proofs.Laws.{stopped}

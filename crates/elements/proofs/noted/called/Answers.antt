@@ -1,13 +1,9 @@
 -- `elements::noted::called` meets its contract: where the lengths agree, what the loop has not yet compared is the same exactly if all is. Assumes
 -- nothing.
-use borrow.Author.Rules.{rules}
-use Prim.Native.Nat.{◌-◌}
-use mathlib.Core.Path.{◌≡◌, refl, ◌∙◌}
+use mathlib.Core.Path.{refl, ◌∙◌}
 use native.Mathlib.Nat.{min-le_right}
 use native.Mathlib.Omega.{arith}
-use lib.ListN.{length, drop}
-use Rattle.laws.specs.Bytes.{same_bytes}
-use Rattle.message.specs.Elements.{part}
+use lib.ListN.{length}
 use Rattle.message.proofs.Parts.{part_other, part_on, part_differs, part_end}
 use Rattle.elements.proofs.noted.called.Goals as goal
 

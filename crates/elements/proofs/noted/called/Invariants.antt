@@ -1,14 +1,10 @@
 -- `elements::noted::called` meets its contract: where the lengths agree, what the loop has not yet compared is the same exactly if all is. Assumes
 -- nothing.
-use borrow.Author.Rules.{rules}
 use Prim.Native.Nat.{◌-◌}
-use mathlib.Core.Path.{◌≡◌, refl, ◌∙◌}
-use native.Mathlib.Nat.{min-le_right}
-use native.Mathlib.Omega.{arith}
-use lib.ListN.{length, drop}
+use mathlib.Core.Path.{◌≡◌}
+use lib.ListN.{drop}
 use Rattle.laws.specs.Bytes.{same_bytes}
 use Rattle.message.specs.Elements.{part}
-use Rattle.message.proofs.Parts.{part_other, part_on, part_differs, part_end}
 use Rattle.elements.proofs.noted.called.Given as goal
 
 abbrev pub invariant-loop-k : goal.invariant-loop-k

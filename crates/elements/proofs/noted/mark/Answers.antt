@@ -1,5 +1,4 @@
 -- `elements::noted::mark` meets its contract: the test is that of the name. Assumes nothing.
-use borrow.Author.Rules.{rules}
 use mathlib.Core.Path.{sym, ◌∙◌}
 use Rattle.message.proofs.Laws.{cond_true, cond_false}
 use Rattle.elements.proofs.noted.mark.Goals as goal

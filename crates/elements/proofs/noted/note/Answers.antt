@@ -1,5 +1,4 @@
 -- `elements::noted::note` meets its contract: the first child is the one that is noted while there is none. Assumes nothing.
-use borrow.Author.Rules.{rules}
 use mathlib.Core.Path.{◌≡◌, ◌∙◌}
 use mathlib.Core.Bool.{cond}
 use Prim.Native.Nat.{ℕ, ◌+◌}

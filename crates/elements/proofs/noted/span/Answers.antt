@@ -1,5 +1,4 @@
 -- `elements::noted::span` meets its contract: the part ends where the message does at the latest, and it may begin behind its end. Assumes nothing.
-use borrow.Author.Rules.{rules}
 use native.Mathlib.Omega.{arith}
 use Rattle.elements.proofs.noted.span.Goals as goal
 use Rattle.elements.proofs.noted.span.Goals.{then-e-n, else-e-n}

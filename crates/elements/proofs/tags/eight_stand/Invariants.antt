@@ -1,10 +1,7 @@
 -- `elements::tags::eight_stand` meets its contract. The invariant of its loop: `same` says whether the first k of the eight are. Assumes nothing.
 use Prim.Native.Nat.{◌-◌, ◌≤◌}
-use mathlib.Core.Path.{◌≡◌, sym}
-use borrow.Author.Rules.{rules}
-use native.Mathlib.Omega.{arith}
+use mathlib.Core.Path.{◌≡◌}
 use Rattle.laws.specs.Bytes.{same_at}
-use Rattle.laws.proofs.Same.{same_none, same_more}
 use Rattle.elements.proofs.tags.eight_stand.Given as goal
 
 abbrev pub invariant-loop-k : goal.invariant-loop-k

@@ -1,7 +1,6 @@
 -- `elements::tags::end_tag` meets its contract: a name that is repeated whole, with `>` at once behind it, is what the longer way would read too.
 -- Assumes nothing.
 use mathlib.Core.Path.{sym, ap, ◌∙◌}
-use borrow.Author.Rules.{rules}
 use native.Mathlib.Omega.{arith}
 use Rattle.message.specs.Class.{class_in}
 use Rattle.message.specs.Reading.{is, one}

@@ -2,7 +2,6 @@
 use Prim.Native.Nat.{ℕ}
 use mathlib.Core.Path.{sym, ap, ◌∙◌}
 use lib.Dec.{ltb}
-use borrow.Author.Rules.{rules}
 use Rattle.message.proofs.Laws.{and_true, and_false}
 use Rattle.elements.proofs.tags.ends_at.Goals as goal
 

@@ -1,11 +1,9 @@
 -- `elements::tags::few_stand` meets its contract. The invariant of its loop: the first k bytes are the same. Assumes nothing.
-use Prim.Native.Nat.{◌-◌, ◌≤◌}
 use mathlib.Core.Path.{◌≡◌, sym, ◌∙◌}
 use mathlib.Core.Bool.{true}
 use borrow.Author.Rules.{rules}
 use borrow.Author.Tests.{eq-eqb}
 use native.Mathlib.Omega.{arith}
-use Rattle.laws.specs.Bytes.{same_at}
 use Rattle.laws.proofs.Same.{one_other, same_none, same_more}
 use Rattle.elements.proofs.tags.few_stand.Goals as goal
 

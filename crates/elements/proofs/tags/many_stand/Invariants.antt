@@ -1,12 +1,8 @@
 -- `elements::tags::many_stand` meets its contract. The invariant of its loop: the first k bytes are the same. Assumes nothing.
-use Prim.Native.Nat.{◌+◌, ◌-◌, ◌≤◌}
-use mathlib.Core.Path.{◌≡◌, sym, ◌∙◌}
+use Prim.Native.Nat.{◌-◌, ◌≤◌}
+use mathlib.Core.Path.{◌≡◌}
 use mathlib.Core.Bool.{true}
-use borrow.Author.Rules.{rules}
-use borrow.Author.Tests.{not-true, not-false}
-use native.Mathlib.Omega.{arith}
 use Rattle.laws.specs.Bytes.{same_at}
-use Rattle.laws.proofs.Same.{same_none, other_part, same_joined}
 use Rattle.elements.proofs.tags.many_stand.Given as goal
 
 abbrev pub invariant-loop-k : goal.invariant-loop-k

@@ -1,5 +1,4 @@
 -- `elements::tags::name` meets its contract: the parts of the name and the colon between them are read again one after the other. Assumes nothing.
-use borrow.Author.Rules.{rules}
 use mathlib.Core.Path.{◌∙◌}
 use borrow.Author.Tests.{eq-eqb, ne_eqb}
 use Rattle.message.specs.Class.{class_in}

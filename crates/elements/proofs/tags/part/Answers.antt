@@ -1,5 +1,4 @@
 -- `elements::tags::part` meets its contract: behind the bytes that are repeated the run of name bytes ends where it ends from the first. Assumes nothing.
-use borrow.Author.Rules.{rules}
 use native.Mathlib.Omega.{arith}
 use Rattle.message.specs.Class.{class_in, is_name}
 use Rattle.message.proofs.Laws.{ends_from}

@@ -1,12 +1,8 @@
 -- `elements::tags::repeated` meets its contract: from the two places that the loop comes to, what is left of the bytes is repeated up to where all of
 -- them are. Assumes nothing.
-use Prim.Native.Nat.{◌-◌}
-use mathlib.Core.Path.{◌≡◌, refl, sym, ◌∙◌}
+use mathlib.Core.Path.{refl, sym, ◌∙◌}
 use native.Mathlib.Omega.{arith}
-use borrow.Author.Tests.{not-true, not-false}
 use Rattle.message.proofs.Laws.{has_lt}
-use Rattle.message.specs.Elements.{part}
-use Rattle.elements.specs.Held.{same_up_to}
 use Rattle.elements.proofs.Repeats.{upto_on, upto_other, upto_end}
 use Rattle.elements.proofs.tags.repeated.Goals as goal
 

@@ -1,6 +1,5 @@
 -- `elements::tags::repeats` meets its contract: bytes that are the same at both places are repeated. Assumes nothing.
 use mathlib.Core.Path.{◌∙◌}
-use borrow.Author.Rules.{rules}
 use native.Mathlib.Omega.{arith}
 use Rattle.elements.proofs.Repeats.{repeats_behind, repeats_long, repeats_same}
 use Rattle.elements.proofs.tags.repeats.Goals as goal

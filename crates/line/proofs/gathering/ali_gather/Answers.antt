@@ -1,6 +1,5 @@
 -- `line::gathering::ali_gather` meets its contract: each `return` is one of `Cases`.
 -- Assumes nothing.
-use borrow.Author.Rules.{rules}
 use borrow.Author.Tests.{lt-ltb, le-ltb}
 use mathlib.Core.Path.{◌∙◌}
 use Rattle.line.proofs.Cases.{list_short, call_refused, call_answered}

@@ -1,12 +1,10 @@
 -- `line::lists::write` meets its contract: its loop copies (`laws`, `Copies`).
 -- Assumes nothing.
-use Prim.Native.Nat.{◌-◌}
 use mathlib.Core.Path.{◌∙◌}
-use borrow.Author.Rules.{rules}
 use native.Mathlib.Omega.{arith}
 use lib.ListN.{length}
 use lib.Seq.{take-length}
-use Rattle.laws.proofs.Copies.{Copied, copied_first, copied_next, copied_all}
+use Rattle.laws.proofs.Copies.{copied_first, copied_next, copied_all}
 use Rattle.line.proofs.lists.write.Goals as goal
 
 pub loop-i-init : goal.loop-i-init

@@ -1,5 +1,4 @@
 -- `line::reading::ali_read` meets its contract: each `return` is one of `ReadCases`. Assumes nothing.
-use borrow.Author.Rules.{rules}
 use mathlib.Core.Path.{sym, ap, ◌∙◌}
 use borrow.Author.Tests.{lt-ltb, le-ltb}
 use Rattle.message.specs.Messages.{answer_said}

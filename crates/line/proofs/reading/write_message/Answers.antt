@@ -1,5 +1,4 @@
 -- `line::reading::write_message` meets its contract: the parts are written one behind the other (`ReadCases`). Assumes nothing.
-use borrow.Author.Rules.{rules}
 use Rattle.line.proofs.ReadCases.{message_written}
 use Rattle.line.proofs.reading.write_message.Goals as goal
 

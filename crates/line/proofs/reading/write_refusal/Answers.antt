@@ -1,5 +1,4 @@
 -- `line::reading::write_refusal` meets its contract: the two numbers and 26 zeros are written. Assumes nothing.
-use borrow.Author.Rules.{rules}
 use Rattle.line.specs.Read.{refusal_numbers}
 use Rattle.line.proofs.reading.write_refusal.Goals as goal
 

@@ -1,5 +1,4 @@
 -- `line::reading::write_status` meets its contract: its five numbers are those of the definition. Assumes nothing.
-use borrow.Author.Rules.{rules}
 use Rattle.line.specs.Read.{status_numbers}
 use Rattle.line.proofs.reading.write_status.Goals as goal
 

@@ -1,5 +1,4 @@
 -- `line::reading::write_type` meets its contract: its five numbers are those of the definition. Assumes nothing.
-use borrow.Author.Rules.{rules}
 use Rattle.line.specs.Read.{type_numbers}
 use Rattle.line.proofs.reading.write_type.Goals as goal
 

@@ -1,5 +1,4 @@
 -- `line::reading::write_value` meets its contract: the five numbers are placed as they are listed. Assumes nothing.
-use borrow.Author.Rules.{rules}
 use Rattle.line.proofs.reading.write_value.Goals as goal
 
 pub returns : goal.returns

@@ -1,5 +1,4 @@
 -- `reader::kinds::kind` meets its contract: each name is tried in the order in which the kinds come. Assumes nothing.
-use borrow.Author.Rules.{rules}
 use mathlib.Core.Path.{sym, ◌∙◌}
 use Rattle.message.proofs.Laws.{cond_true, cond_false}
 use Rattle.message.specs.Messages.{kind_of}

@@ -1,5 +1,4 @@
 -- `reader::messages::advisory` meets its contract: the one child element, the first AdvisoryType in it, and the value in its start tag if it is there. Assumes nothing.
-use borrow.Author.Rules.{rules}
 use mathlib.Core.Path.{sym, ◌∙◌, ap}
 use native.Mathlib.Omega.{arith}
 use Rattle.scan.proofs.Said.{place_is}

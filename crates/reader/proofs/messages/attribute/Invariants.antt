@@ -1,18 +1,12 @@
 -- `reader::messages::attribute` meets its contract: from each attribute that the loop comes to, the specification gives what it gave at the start.
 -- Assumes nothing.
 use Prim.Native.Nat.{◌-◌}
-use mathlib.Core.Path.{refl, sym, ◌∙◌, ap}
-use native.Mathlib.Omega.{arith}
 use lib.ListN.{length}
-use borrow.Author.Rules.{rules}
 use Rattle.message.specs.Class.{class_in}
-use Rattle.scan.proofs.Said.{name_is}
-use Rattle.message.proofs.Loops.{Left, left_first}
+use Rattle.message.proofs.Loops.{Left}
 use Rattle.message.specs.Limits.{link_limits}
 use Rattle.message.specs.Messages.{attribute_called}
-use Rattle.elements.specs.Held.{span_said}
-use Rattle.message.proofs.Trees.{quoted_on}
-use Rattle.elements.proofs.AttributeLaws.{span_is, lookup, called_unnamed, called_no_value, called_found, called_further, called_on}
+use Rattle.elements.proofs.AttributeLaws.{lookup}
 use Rattle.reader.proofs.messages.attribute.Given as goal
 
 abbrev pub invariant-loop-e : goal.invariant-loop-e

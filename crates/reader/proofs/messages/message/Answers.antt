@@ -1,5 +1,4 @@
 -- `reader::messages::message` meets its contract: the table is the one of the rule. Assumes nothing.
-use borrow.Author.Rules.{rules}
 use mathlib.Core.Path.{◌∙◌, ap}
 use Rattle.message.specs.Class.{class_in}
 use Rattle.message.proofs.ClassTable.{table_is}

@@ -1,5 +1,4 @@
 -- `reader::messages::message_with` meets its contract: the document, the kind by the name of its root, and the message of that kind. Assumes nothing.
-use borrow.Author.Rules.{rules}
 use mathlib.Core.Path.{sym, ◌∙◌, ap}
 use Rattle.elements.specs.Seen.{told_said}
 use Rattle.reader.specs.Roots.{kind_said}

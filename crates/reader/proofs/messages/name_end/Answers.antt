@@ -1,5 +1,4 @@
 -- `reader::messages::name_end` meets its contract: a name that is not read has its end at 0. Assumes nothing.
-use borrow.Author.Rules.{rules}
 use Rattle.scan.proofs.Said.{name_is}
 use Rattle.reader.proofs.Roots.{name_end_lem, none_end}
 use Rattle.reader.proofs.messages.name_end.Goals as goal

@@ -1,5 +1,4 @@
 -- `reader::messages::named` meets its contract: a name that is read and is the word gives its end. Assumes nothing.
-use borrow.Author.Rules.{rules}
 use mathlib.Core.Path.{sym, ◌∙◌}
 use Rattle.scan.proofs.Said.{name_is}
 use Rattle.message.proofs.Laws.{cond_true, cond_false}

@@ -1,5 +1,4 @@
 -- `reader::messages::numbers` meets its contract: the values that the kind does not have are those of no value. Assumes nothing.
-use borrow.Author.Rules.{rules}
 use Rattle.reader.proofs.messages.numbers.Goals as goal
 
 pub returns : goal.returns

@@ -1,5 +1,4 @@
 -- `reader::messages::of_kind` meets its contract: each kind has its function. Assumes nothing.
-use borrow.Author.Rules.{rules}
 use mathlib.Core.Path.{sym, ◌∙◌, ap}
 use Rattle.message.specs.Reading.Reading.{whole}
 use Rattle.message.specs.Limits.{link_limits}

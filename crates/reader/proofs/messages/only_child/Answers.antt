@@ -1,5 +1,4 @@
 -- `reader::messages::only_child_lem` meets its contract: where there is one child alone, its name is looked at. Assumes nothing.
-use borrow.Author.Rules.{rules}
 use mathlib.Core.Path.{◌∙◌}
 use borrow.Author.Tests.{eq-eqb, ne_eqb}
 use Rattle.message.proofs.Laws.{cond_true, cond_false}

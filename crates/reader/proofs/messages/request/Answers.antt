@@ -1,7 +1,5 @@
 -- `reader::messages::request` meets its contract: the one child element, and the value that is needed in its start tag. Assumes nothing.
-use borrow.Author.Rules.{rules}
 use mathlib.Core.Path.{sym, ◌∙◌}
-use borrow.Author.Tests.{not-true, not-false}
 use Rattle.scan.proofs.Said.{place_is}
 use Rattle.message.proofs.Laws.{went}
 use Rattle.reader.proofs.Seven.{child_refused, child_is, value_missing, value_there, numbers_same}

@@ -1,5 +1,4 @@
 -- `reader::messages::response` meets its contract: the one child element, and the value in its start tag if it is there. Assumes nothing.
-use borrow.Author.Rules.{rules}
 use mathlib.Core.Path.{◌∙◌, ap}
 use Rattle.scan.proofs.Said.{place_is}
 use Rattle.message.proofs.Laws.{went}

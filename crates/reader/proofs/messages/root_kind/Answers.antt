@@ -1,5 +1,4 @@
 -- `reader::messages::root_kind` meets its contract: a name that is not read is of no kind. Assumes nothing.
-use borrow.Author.Rules.{rules}
 use mathlib.Core.Path.{◌∙◌}
 use Rattle.scan.proofs.Said.{name_is}
 use Rattle.reader.proofs.Roots.{name_kind, none_kind}

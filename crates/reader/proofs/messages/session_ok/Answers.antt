@@ -1,7 +1,5 @@
 -- `reader::messages::session_ok` meets its contract: the value that it needs is looked for in the root's start tag. Assumes nothing.
-use borrow.Author.Rules.{rules}
 use mathlib.Core.Path.{sym, ◌∙◌}
-use borrow.Author.Tests.{not-true, not-false}
 use Rattle.reader.proofs.Seven.{root_end, value_missing, value_there, numbers_same}
 use Rattle.reader.proofs.messages.session_ok.Goals as goal
 

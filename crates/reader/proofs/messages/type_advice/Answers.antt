@@ -1,5 +1,4 @@
 -- `reader::messages::type_advice` meets its contract: the test is whether an element is inside. Assumes nothing.
-use borrow.Author.Rules.{rules}
 use mathlib.Core.Path.{◌∙◌}
 use borrow.Author.Tests.{eq-eqb, ne_eqb}
 use Rattle.message.proofs.Laws.{cond_true, cond_false}

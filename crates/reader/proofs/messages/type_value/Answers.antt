@@ -1,5 +1,4 @@
 -- `reader::messages::type_value` meets its contract: the element is the one that is read again there. Assumes nothing.
-use borrow.Author.Rules.{rules}
 use mathlib.Core.Path.{sym, ◌∙◌, ap}
 use Rattle.elements.specs.Seen.{told_said}
 use Rattle.reader.proofs.Seven.{type_unread, type_read}

@@ -1,7 +1,7 @@
 -- `scan::names::name` meets its contract: from each place that the loop comes to, the part there, and what is still to come behind it, are the name. Assumes nothing.
 use mathlib.Core.Path.{sym, ◌∙◌}
 use native.Mathlib.Omega.{arith}
-use borrow.Author.Tests.{not-true, not-false, eq-eqb, ne_eqb}
+use borrow.Author.Tests.{eq-eqb, ne_eqb}
 use Rattle.message.specs.Class.{class_in}
 use Rattle.scan.proofs.Said.{place_is}
 use Rattle.message.proofs.Laws.{went, stopped, has_lt, cond_true, cond_false}

@@ -1,5 +1,4 @@
 -- `text::characters::between` meets its contract: it reads on where such a byte stands, and refuses where none does. Assumes nothing.
-use borrow.Author.Rules.{rules}
 use mathlib.Core.Path.{sym, ◌∙◌}
 use native.Mathlib.Omega.{arith}
 use Rattle.message.proofs.Laws.{has_lt, one_yes, one_no}

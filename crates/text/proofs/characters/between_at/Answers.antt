@@ -1,5 +1,4 @@
 -- `text::characters::between_at` meets its contract: the byte is held to both ends of the range in the contract's order. Assumes nothing.
-use borrow.Author.Rules.{rules}
 use mathlib.Core.Path.{sym, ◌∙◌}
 use borrow.Author.Tests.{le-leb, lt-leb}
 use Rattle.message.proofs.Laws.{and_true, and_false, has_in, has_out}

@@ -1,8 +1,6 @@
 -- `text::characters::four` meets its contract: the readings are the contract's in its order, with the second byte's range that the first one gives, and the ranges keep the number small. Assumes nothing.
-use borrow.Author.Rules.{rules}
 use Prim.Native.Nat.{◌≤◌}
 use mathlib.Core.Path.{◌∙◌}
-use mathlib.Core.Logic.{⊎_elim}
 use native.Mathlib.Omega.{arith}
 use Rattle.message.specs.Characters.{four_at}
 use Rattle.message.proofs.Laws.{went, stopped, cond_true, cond_false, one_between, between_same}
@@ -20,10 +18,10 @@ bounds-s-at c = omega (arith, one_between 240 244 _ _ _ (place_is c.between-r.en
 
 pub returns-in-Refused-r : goal.returns-in-Refused-r
 unfolding four_at
-returns-in-Refused-r c = stopped _ (place_is (c.between-r-2.ensures ∙ 
-      between_same _ _ _ _
-      (elim c.if-lead.branch [ then-lead w ↦ w.low-is ∙ cond_true _ (eq-eqb _ _ w.if-lead.true) | else-lead w ↦ w.low-is ∙ cond_false _ (ne_eqb _ _ w.if-lead.false) ])
-      (elim c.if-lead-2.branch [ then-lead-2 w ↦ w.high-is ∙ cond_true _ (eq-eqb _ _ w.if-lead-2.true) | else-lead-2 w ↦ w.high-is ∙ cond_false _ (ne_eqb _ _ w.if-lead-2.false) ])) c.in-Refused-r.is)
+returns-in-Refused-r c = stopped _ (place_is (c.between-r-2.ensures ∙
+    between_same _ _ _ _
+    (elim c.if-lead.branch [ then-lead w ↦ w.low-is ∙ cond_true _ (eq-eqb _ _ w.if-lead.true) | else-lead w ↦ w.low-is ∙ cond_false _ (ne_eqb _ _ w.if-lead.false) ])
+    (elim c.if-lead-2.branch [ then-lead-2 w ↦ w.high-is ∙ cond_true _ (eq-eqb _ _ w.if-lead-2.true) | else-lead-2 w ↦ w.high-is ∙ cond_false _ (ne_eqb _ _ w.if-lead-2.false) ])) c.in-Refused-r.is)
     ∙ went _ (place_is c.between-r.ensures c.in-Whole.is)
 
 pub overflow_cast-lead : goal.overflow_cast-lead
@@ -45,8 +43,8 @@ last_two-requires c = omega (arith, c.joined-begun.ensures, c.type_inv.s c.in-Wh
 pub returns : goal.returns
 unfolding four_at
 returns c = (rw c.joined-begun.ensures at c.last_two.ensures)
-    ∙ went _ (place_is (c.between-r-2.ensures ∙ 
-      between_same _ _ _ _
-      (elim c.if-lead.branch [ then-lead w ↦ w.low-is ∙ cond_true _ (eq-eqb _ _ w.if-lead.true) | else-lead w ↦ w.low-is ∙ cond_false _ (ne_eqb _ _ w.if-lead.false) ])
-      (elim c.if-lead-2.branch [ then-lead-2 w ↦ w.high-is ∙ cond_true _ (eq-eqb _ _ w.if-lead-2.true) | else-lead-2 w ↦ w.high-is ∙ cond_false _ (ne_eqb _ _ w.if-lead-2.false) ])) c.in-Whole-r.is)
+    ∙ went _ (place_is (c.between-r-2.ensures ∙
+    between_same _ _ _ _
+    (elim c.if-lead.branch [ then-lead w ↦ w.low-is ∙ cond_true _ (eq-eqb _ _ w.if-lead.true) | else-lead w ↦ w.low-is ∙ cond_false _ (ne_eqb _ _ w.if-lead.false) ])
+    (elim c.if-lead-2.branch [ then-lead-2 w ↦ w.high-is ∙ cond_true _ (eq-eqb _ _ w.if-lead-2.true) | else-lead-2 w ↦ w.high-is ∙ cond_false _ (ne_eqb _ _ w.if-lead-2.false) ])) c.in-Whole-r.is)
     ∙ went _ (place_is c.between-r.ensures c.in-Whole.is)

@@ -1,5 +1,4 @@
 -- `text::characters::last_two` meets its contract: the readings are the contract's in its order, and what is required of the number before them keeps it small. Assumes nothing.
-use borrow.Author.Rules.{rules}
 use mathlib.Core.Path.{◌∙◌}
 use native.Mathlib.Omega.{arith}
 use Rattle.message.specs.Characters.{last_two_at}

@@ -1,5 +1,4 @@
 -- `text::characters::long` meets its contract: the first byte tells how many follow. Assumes nothing.
-use borrow.Author.Rules.{rules}
 use mathlib.Core.Path.{sym, ◌∙◌}
 use Rattle.message.specs.Characters.{long_at}
 use Rattle.message.proofs.Laws.{cond_true, cond_false}

@@ -1,8 +1,6 @@
 -- `text::characters::three` meets its contract: the readings are the contract's in its order, with the second byte's range that the first one gives, and the ranges keep the number small. Assumes nothing.
-use borrow.Author.Rules.{rules}
 use Prim.Native.Nat.{◌+◌, ◌≤◌}
 use mathlib.Core.Path.{refl, ◌∙◌}
-use mathlib.Core.Logic.{⊎_elim}
 use native.Mathlib.Omega.{arith}
 use Rattle.message.specs.Characters.{three_at}
 use Rattle.message.proofs.Laws.{went, stopped, same_code, cond_true, cond_false, has_between, one_between, between_same}
@@ -19,10 +17,10 @@ overflow_add-at c = omega (arith, has_between 224 239 _ _ c.requires)
 
 pub returns-in-Refused : goal.returns-in-Refused
 unfolding three_at
-returns-in-Refused c = stopped _ (place_is (c.between-r.ensures ∙ 
-      between_same _ _ _ _
-      (elim c.if-lead.branch [ then-lead w ↦ w.low-is ∙ cond_true _ (eq-eqb _ _ w.if-lead.true) | else-lead w ↦ w.low-is ∙ cond_false _ (ne_eqb _ _ w.if-lead.false) ])
-      (elim c.if-lead-2.branch [ then-lead-2 w ↦ w.high-is ∙ cond_true _ (eq-eqb _ _ w.if-lead-2.true) | else-lead-2 w ↦ w.high-is ∙ cond_false _ (ne_eqb _ _ w.if-lead-2.false) ])) c.in-Refused.is)
+returns-in-Refused c = stopped _ (place_is (c.between-r.ensures ∙
+    between_same _ _ _ _
+    (elim c.if-lead.branch [ then-lead w ↦ w.low-is ∙ cond_true _ (eq-eqb _ _ w.if-lead.true) | else-lead w ↦ w.low-is ∙ cond_false _ (ne_eqb _ _ w.if-lead.false) ])
+    (elim c.if-lead-2.branch [ then-lead-2 w ↦ w.high-is ∙ cond_true _ (eq-eqb _ _ w.if-lead-2.true) | else-lead-2 w ↦ w.high-is ∙ cond_false _ (ne_eqb _ _ w.if-lead-2.false) ])) c.in-Refused.is)
 
 pub overflow_add-second : goal.overflow_add-second
 overflow_add-second c = omega (arith, has_between 224 239 _ _ c.requires)
@@ -50,15 +48,15 @@ pub returns-in-Whole-r : goal.returns-in-Whole-r
 unfolding three_at
 returns-in-Whole-r c = same_code (rw c.joined.ensures at c.joined-in-Whole-r.ensures)
     ∙ went _ (place_is (c.between-r-2.ensures ∙ between_same _ _ _ _ refl c.last_of_three.ensures) c.in-Whole-r.is)
-    ∙ went _ (place_is (c.between-r.ensures ∙ 
-      between_same _ _ _ _
-      (elim c.if-lead.branch [ then-lead w ↦ w.low-is ∙ cond_true _ (eq-eqb _ _ w.if-lead.true) | else-lead w ↦ w.low-is ∙ cond_false _ (ne_eqb _ _ w.if-lead.false) ])
-      (elim c.if-lead-2.branch [ then-lead-2 w ↦ w.high-is ∙ cond_true _ (eq-eqb _ _ w.if-lead-2.true) | else-lead-2 w ↦ w.high-is ∙ cond_false _ (ne_eqb _ _ w.if-lead-2.false) ])) c.in-Whole.is)
+    ∙ went _ (place_is (c.between-r.ensures ∙
+    between_same _ _ _ _
+    (elim c.if-lead.branch [ then-lead w ↦ w.low-is ∙ cond_true _ (eq-eqb _ _ w.if-lead.true) | else-lead w ↦ w.low-is ∙ cond_false _ (ne_eqb _ _ w.if-lead.false) ])
+    (elim c.if-lead-2.branch [ then-lead-2 w ↦ w.high-is ∙ cond_true _ (eq-eqb _ _ w.if-lead-2.true) | else-lead-2 w ↦ w.high-is ∙ cond_false _ (ne_eqb _ _ w.if-lead-2.false) ])) c.in-Whole.is)
 
 pub returns-in-Refused-r : goal.returns-in-Refused-r
 unfolding three_at
 returns-in-Refused-r c = stopped _ (place_is (c.between-r-2.ensures ∙ between_same _ _ _ _ refl c.last_of_three.ensures) c.in-Refused-r.is)
-    ∙ went _ (place_is (c.between-r.ensures ∙ 
-      between_same _ _ _ _
-      (elim c.if-lead.branch [ then-lead w ↦ w.low-is ∙ cond_true _ (eq-eqb _ _ w.if-lead.true) | else-lead w ↦ w.low-is ∙ cond_false _ (ne_eqb _ _ w.if-lead.false) ])
-      (elim c.if-lead-2.branch [ then-lead-2 w ↦ w.high-is ∙ cond_true _ (eq-eqb _ _ w.if-lead-2.true) | else-lead-2 w ↦ w.high-is ∙ cond_false _ (ne_eqb _ _ w.if-lead-2.false) ])) c.in-Whole.is)
+    ∙ went _ (place_is (c.between-r.ensures ∙
+    between_same _ _ _ _
+    (elim c.if-lead.branch [ then-lead w ↦ w.low-is ∙ cond_true _ (eq-eqb _ _ w.if-lead.true) | else-lead w ↦ w.low-is ∙ cond_false _ (ne_eqb _ _ w.if-lead.false) ])
+    (elim c.if-lead-2.branch [ then-lead-2 w ↦ w.high-is ∙ cond_true _ (eq-eqb _ _ w.if-lead-2.true) | else-lead-2 w ↦ w.high-is ∙ cond_false _ (ne_eqb _ _ w.if-lead-2.false) ])) c.in-Whole.is)

@@ -1,5 +1,4 @@
 -- `text::characters::two` meets its contract: the readings are the contract's, and the ranges that the bytes lie in keep the number small. Assumes nothing.
-use borrow.Author.Rules.{rules}
 use mathlib.Core.Path.{◌∙◌}
 use native.Mathlib.Omega.{arith}
 use Rattle.message.specs.Characters.{two_at}

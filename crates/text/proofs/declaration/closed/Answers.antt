@@ -1,5 +1,4 @@
 -- `text::declaration::closed` meets its contract: where the value begins at 0 or past the end, no quotation mark stands before it. Assumes nothing.
-use borrow.Author.Rules.{rules}
 use Prim.Native.Nat.{ℕ, ◌-◌, ◌<◌, ◌≤◌}
 use mathlib.Core.Path.{◌≡◌, sym, ◌∙◌}
 use mathlib.Core.List.{List}

@@ -1,6 +1,5 @@
 -- `text::declaration::declaration` meets its contract: each `return` hands on the refusal of the reading before it, and every reading before that one
 -- was whole; behind the version either `?>` or the encoding follows. Assumes nothing.
-use borrow.Author.Rules.{rules}
 use mathlib.Core.Path.{sym, ap, ◌∙◌}
 use Rattle.message.specs.Reading.{is, has, word_at}
 use Rattle.message.specs.Markup.{version, closing, declaration_at}

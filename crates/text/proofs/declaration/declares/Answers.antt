@@ -1,5 +1,4 @@
 -- `text::declaration::declares` meets its contract: the byte behind `<?xml` is looked at where that word stands. Assumes nothing.
-use borrow.Author.Rules.{rules}
 use mathlib.Core.Path.{sym, ◌∙◌}
 use Rattle.message.proofs.Laws.{and_true, and_false}
 use Rattle.text.proofs.declaration.declares.Goals as goal

@@ -1,6 +1,5 @@
 -- `text::declaration::encoding` meets its contract: each `return` hands on the refusal of the reading before it, and every reading before that one was
 -- whole. Assumes nothing.
-use borrow.Author.Rules.{rules}
 use mathlib.Core.Path.{ap, ◌∙◌}
 use Rattle.message.specs.Reading.{word_at}
 use Rattle.message.specs.Markup.{encoding, closing, encoding_at}

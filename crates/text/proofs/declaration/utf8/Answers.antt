@@ -1,5 +1,4 @@
 -- `text::declaration::utf8` meets its contract: the first letter tells the small letters from the capitals. Assumes nothing.
-use borrow.Author.Rules.{rules}
 use mathlib.Core.Path.{sym, ◌∙◌}
 use Rattle.message.specs.Markup.{utf8_at}
 use Rattle.message.proofs.Laws.{cond_true, cond_false}

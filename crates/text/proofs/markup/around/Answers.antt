@@ -1,14 +1,9 @@
 -- `text::markup::around` meets its contract: from each place that the loop comes to, with fuel that is enough, the specification gives what it gave at
 -- the start. Assumes nothing.
-use borrow.Author.Rules.{rules}
-use Prim.Native.Nat.{suc, ◌-◌}
 use mathlib.Core.Path.{sym, ◌∙◌}
-use lib.ListN.{length}
-use Rattle.message.specs.Class.{class_in}
-use Rattle.message.specs.Markup.{around_at}
 use Rattle.scan.proofs.Said.{place_is, handed}
 use Rattle.message.proofs.Laws.{went, cond_true, cond_false}
-use Rattle.message.proofs.Loops.{Left, left_first, left_on, left_done}
+use Rattle.message.proofs.Loops.{left_first, left_on, left_done}
 use Rattle.message.proofs.MarkupLoop.{around as loop, around_less, bang_on}
 use Rattle.text.proofs.markup.around.Goals as goal
 

@@ -1,6 +1,5 @@
 -- `text::markup::bang` meets its contract: of the two openings that are left out neither is passed over, and each `return` hands on the refusal of the
 -- reading before it. Assumes nothing.
-use borrow.Author.Rules.{rules}
 use mathlib.Core.Path.{sym, ◌∙◌}
 use Rattle.message.specs.Markup.{bang_at}
 use Rattle.scan.proofs.Said.{place_is, handed}

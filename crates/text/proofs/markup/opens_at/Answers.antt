@@ -1,5 +1,4 @@
 -- `text::markup::opens_at` meets its contract: the second byte is looked at where the first is `<`. Assumes nothing.
-use borrow.Author.Rules.{rules}
 use mathlib.Core.Path.{sym, ◌∙◌}
 use native.Mathlib.Omega.{arith}
 use Rattle.message.proofs.Laws.{has_lt, and_true, and_false}

@@ -1,5 +1,4 @@
 -- `text::references::close` meets its contract: a `;` and the number's legality are looked at in the contract's order. Assumes nothing.
-use borrow.Author.Rules.{rules}
 use mathlib.Core.Path.{sym, ◌∙◌}
 use native.Mathlib.Omega.{arith}
 use Rattle.message.proofs.Laws.{and_true, and_false, has_lt, has_with, one_yes, one_no}

@@ -1,5 +1,4 @@
 -- `text::references::digit` meets its contract: each way out is one of the contract's ranges, and what is required of the byte keeps the differences above 0. Assumes nothing.
-use borrow.Author.Rules.{rules}
 use mathlib.Core.Path.{◌∙◌}
 use native.Mathlib.Omega.{arith}
 use borrow.Author.Tests.{le-leb, lt-leb}

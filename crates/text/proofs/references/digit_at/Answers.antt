@@ -1,5 +1,4 @@
 -- `text::references::digit_at` meets its contract: inside the message the byte is looked at, and past its end there is none. Assumes nothing.
-use borrow.Author.Rules.{rules}
 use mathlib.Core.Path.{sym, ◌∙◌}
 use Rattle.message.proofs.Laws.{has_in, has_out}
 use Rattle.text.proofs.references.digit_at.Goals as goal

@@ -1,15 +1,14 @@
 -- `text::references::digits` meets its contract: from each place and number that the loop comes to, the digits left give what was asked for at the start. The number stays that of a character, so the next one fits. Assumes nothing.
-use Prim.Native.Nat.{suc, ◌+◌, ◌-◌, ◌*◌, ◌≤◌}
+use Prim.Native.Nat.{◌+◌, ◌*◌}
 use mathlib.Core.Path.{refl, sym, ◌∙◌}
 use native.Mathlib.Omega.{arith}
 use native.Mathlib.Nat.{mul-le-mul}
-use lib.ListN.{length}
 use borrow.Author.Tests.{le-leb, lt-leb}
 use Rattle.message.specs.Reading.{byte_at}
-use Rattle.message.specs.Characters.{digit_of, digits_at}
+use Rattle.message.specs.Characters.{digit_of}
 use Rattle.message.proofs.Laws.{cond_true, cond_false, has_lt, has_byte}
 use Rattle.message.proofs.Digits.{digit_below, digit_more}
-use Rattle.message.proofs.Loops.{Left, left_first, left_on, left_done, numbers}
+use Rattle.message.proofs.Loops.{left_first, left_on, left_done, numbers}
 use Rattle.text.proofs.references.digits.Goals as goal
 
 pub loop-more-init : goal.loop-more-init

@@ -1,15 +1,8 @@
 -- `text::references::digits` meets its contract: from each place and number that the loop comes to, the digits left give what was asked for at the start. The number stays that of a character, so the next one fits. Assumes nothing.
-use Prim.Native.Nat.{suc, ◌+◌, ◌-◌, ◌*◌, ◌≤◌}
-use mathlib.Core.Path.{refl, sym, ◌∙◌}
-use native.Mathlib.Omega.{arith}
-use native.Mathlib.Nat.{mul-le-mul}
+use Prim.Native.Nat.{suc, ◌-◌, ◌≤◌}
 use lib.ListN.{length}
-use borrow.Author.Tests.{le-leb, lt-leb}
-use Rattle.message.specs.Reading.{byte_at}
-use Rattle.message.specs.Characters.{digit_of, digits_at}
-use Rattle.message.proofs.Laws.{cond_true, cond_false, has_lt, has_byte}
-use Rattle.message.proofs.Digits.{digit_below, digit_more}
-use Rattle.message.proofs.Loops.{Left, left_first, left_on, left_done, numbers}
+use Rattle.message.specs.Characters.{digits_at}
+use Rattle.message.proofs.Loops.{Left, numbers}
 use Rattle.text.proofs.references.digits.Given as goal
 
 abbrev pub invariant-loop-more : goal.invariant-loop-more

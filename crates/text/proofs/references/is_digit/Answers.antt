@@ -1,7 +1,6 @@
 -- `text::references::is_digit` meets its contract: what it refuses lies in none of the three ranges, and what is left is a digit by what it counts. Assumes nothing.
 use mathlib.Core.Path.{sym, ap, ◌∙◌}
 use Prim.Native.Nat.{ℕ}
-use mathlib.Core.Logic.{⊎_elim}
 use native.Mathlib.Omega.{arith}
 use lib.Dec.{ltb}
 use borrow.Author.Tests.{lt-ltb}

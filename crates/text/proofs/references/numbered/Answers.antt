@@ -1,7 +1,5 @@
 -- `text::references::numbered` meets its contract: the readings are the contract's in its order: a digit, the digits from there on, and the `;`. Assumes nothing.
-use borrow.Author.Rules.{rules}
 use mathlib.Core.Path.{sym, ap, ◌∙◌}
-use borrow.Author.Tests.{not-true, not-false}
 use Rattle.message.specs.Characters.{numbered_at}
 use Rattle.scan.specs.Answers.{character_said}
 use Rattle.message.proofs.Laws.{went, stopped, one_yes, one_no}

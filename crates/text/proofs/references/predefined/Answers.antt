@@ -1,8 +1,6 @@
 -- `text::references::predefined` meets its contract: the first byte, and after `a` the second, tell the five names apart. Assumes nothing.
-use borrow.Author.Rules.{rules}
 use mathlib.Core.Path.{sym, ◌∙◌}
 use native.Mathlib.Omega.{arith}
-use borrow.Author.Tests.{not-true, not-false}
 use Rattle.message.specs.Characters.{predefined_at}
 use Rattle.message.proofs.Laws.{went, stopped, cond_true, cond_false, has_lt, one_yes, one_no}
 use Rattle.text.proofs.references.predefined.Goals as goal

@@ -1,9 +1,7 @@
 -- `text::references::reference` meets its contract: the byte behind the `&`, and the one behind `#`, tell the three kinds apart. Assumes nothing.
-use borrow.Author.Rules.{rules}
 use Prim.Native.Nat.{ℕ, ◌+◌}
 use mathlib.Core.Path.{◌≡◌, sym, ap, ◌∙◌}
 use native.Mathlib.Omega.{arith}
-use borrow.Author.Tests.{not-true, not-false}
 use Rattle.message.specs.Reading.{is, has}
 use Rattle.message.specs.Characters.{numbered_at, reference_at}
 use Rattle.message.proofs.Laws.{went, stopped, cond_true, cond_false, has_lt, one_yes, one_no}

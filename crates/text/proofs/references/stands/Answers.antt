@@ -1,5 +1,4 @@
 -- `text::references::stands` meets its contract: it hands on what the reading of the word gave. Assumes nothing.
-use borrow.Author.Rules.{rules}
 use Rattle.message.specs.Characters.{stands_at}
 use Rattle.message.proofs.Laws.{went, stopped}
 use Rattle.scan.proofs.Said.{place_is}

@@ -1,5 +1,4 @@
 -- `text::runs::behind` meets its contract: a character that was read ends where it says, and a refusal stays as it is. Assumes nothing.
-use borrow.Author.Rules.{rules}
 use mathlib.Core.Path.{refl}
 use Rattle.message.proofs.Laws.{went, stopped}
 use Rattle.scan.proofs.Said.{character_is}

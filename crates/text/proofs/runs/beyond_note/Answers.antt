@@ -1,5 +1,4 @@
 -- `text::runs::beyond_note` meets its contract: a `-` is read as such, and anything else as the contract's character. Assumes nothing.
-use borrow.Author.Rules.{rules}
 use mathlib.Core.Path.{sym, ◌∙◌}
 use native.Mathlib.Omega.{arith}
 use Rattle.message.specs.Text.{beyond_note_at}

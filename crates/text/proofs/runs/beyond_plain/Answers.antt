@@ -1,5 +1,4 @@
 -- `text::runs::beyond_plain` meets its contract: a `]` is read as such, and anything else as in a value. Assumes nothing.
-use borrow.Author.Rules.{rules}
 use mathlib.Core.Path.{sym, ◌∙◌}
 use Rattle.message.specs.Text.{beyond_plain_at}
 use Rattle.message.proofs.Laws.{cond_true, cond_false}

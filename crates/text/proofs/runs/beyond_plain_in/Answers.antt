@@ -1,5 +1,4 @@
 -- `text::runs::beyond_plain_in` meets its contract: a byte of text is read as such, and anything else as the contract's reference or character. Assumes nothing.
-use borrow.Author.Rules.{rules}
 use mathlib.Core.Path.{sym, ap, ◌∙◌}
 use native.Mathlib.Omega.{arith}
 use Rattle.message.specs.Text.{behind, special_at, beyond_plain_in_at}

@@ -1,7 +1,5 @@
 -- `text::runs::bracket` meets its contract: `]]>` is refused where both bytes behind the `]` stand, and on any other way one of them does not. Assumes nothing.
-use borrow.Author.Rules.{rules}
 use mathlib.Core.Path.{sym, ◌∙◌}
-use mathlib.Core.Logic.{⊎_elim}
 use native.Mathlib.Omega.{arith}
 use Rattle.message.specs.Text.{bracket_at}
 use Rattle.message.proofs.Laws.{cond_true, cond_false, and_true, and_false, has_lt}
@@ -28,5 +26,6 @@ pub returns : goal.returns
 unfolding bracket_at
 returns c =
     cond_false _ (elim c.if-is_at.branch [
-    | then-is_at+else-is_at-2 w ↦ sym (and_true _ (sym c.is_at.ensures ∙ w.if-is_at.true)) ∙ sym w.is_at-then-is_at.ensures ∙ w.if-is_at-2.false
-    | else-is_at w ↦ sym (and_false _ (sym c.is_at.ensures ∙ w.if-is_at.false)) ])
+      | then-is_at+else-is_at-2 w ↦ sym (and_true _ (sym c.is_at.ensures ∙ w.if-is_at.true)) ∙ sym w.is_at-then-is_at.ensures ∙ w.if-is_at-2.false
+      | else-is_at w ↦ sym (and_false _ (sym c.is_at.ensures ∙ w.if-is_at.false))
+    ])

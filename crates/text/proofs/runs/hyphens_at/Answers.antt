@@ -1,5 +1,4 @@
 -- `text::runs::hyphens_at` meets its contract: the two bytes are looked at in the contract's order, and the first keeps the second's place small. Assumes nothing.
-use borrow.Author.Rules.{rules}
 use mathlib.Core.Path.{sym, ◌∙◌}
 use native.Mathlib.Omega.{arith}
 use Rattle.message.proofs.Laws.{and_true, and_false, has_lt}

@@ -1,5 +1,4 @@
 -- `text::runs::plain_note` meets its contract: `<` and `&` pass whatever their class is, and any other byte passes by its class. Assumes nothing.
-use borrow.Author.Rules.{rules}
 use Prim.Native.Nat.{ℕ}
 use mathlib.Core.Path.{◌≡◌, sym, ap, ◌∙◌}
 use mathlib.Core.Bool.{Bool, true, false, not, ◌&&◌, ◌||◌}

@@ -1,10 +1,6 @@
 -- `text::runs::plain_note_end` meets its contract: from each place that the loop comes to, the run ends where it ends from the first. Assumes nothing.
-use mathlib.Core.Path.{◌≡◌, refl, sym, ◌∙◌}
-use Prim.Native.Nat.{◌-◌}
+use mathlib.Core.Path.{refl, sym, ◌∙◌}
 use native.Mathlib.Omega.{arith}
-use lib.ListN.{length}
-use Rattle.message.specs.Class.{class_in, is_plain_note}
-use Rattle.message.specs.Reading.{ends}
 use Rattle.message.proofs.Laws.{has_lt, ends_more, ends_stop}
 use Rattle.text.proofs.runs.plain_note_end.Goals as goal
 

@@ -1,5 +1,4 @@
 -- `text::runs::special` meets its contract: an `&` begins a reference, and any other byte a character of more than one. Assumes nothing.
-use borrow.Author.Rules.{rules}
 use mathlib.Core.Path.{sym, ◌∙◌}
 use Rattle.message.specs.Text.{special_at}
 use Rattle.message.proofs.Laws.{cond_true, cond_false}

@@ -1,16 +1,10 @@
 -- `text::runs::value` meets its contract: behind the plain text at each place that the loop comes to, what is left to read gives what was asked for at the start. Assumes nothing.
-use borrow.Author.Rules.{rules}
 use Prim.Native.Nat.{◌-◌}
-use mathlib.Core.Path.{refl, sym, subst⁻¹, ◌∙◌}
-use native.Mathlib.Omega.{arith}
 use lib.ListN.{length}
 use Rattle.message.specs.Class.{class_in, is_plain}
 use Rattle.message.specs.Reading.{ends}
 use Rattle.message.specs.Text.{value_at}
-use Rattle.message.proofs.Laws.{went, cond_true, cond_false, ends_after}
-use Rattle.scan.proofs.Said.{place_is, handed}
-use Rattle.message.proofs.Progress.{beyond_plain_in_on}
-use Rattle.message.proofs.Loops.{Left, left_first, left_on, left_done, values}
+use Rattle.message.proofs.Loops.{Left, values}
 use Rattle.text.proofs.runs.value.Given as goal
 
 abbrev pub invariant-loop-at : goal.invariant-loop-at

@@ -1,5 +1,4 @@
 -- `values::meaning::advice` meets its contract: the content is compared with the one text that means something. Assumes nothing.
-use borrow.Author.Rules.{rules}
 use mathlib.Core.Path.{sym, ◌∙◌}
 use Rattle.message.proofs.Laws.{cond_true, cond_false}
 use Rattle.values.proofs.meaning.advice.Goals as goal

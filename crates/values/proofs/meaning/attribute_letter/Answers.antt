@@ -1,5 +1,4 @@
 -- `values::meaning::attribute_letter` meets its contract: where a break stands it is a space, and otherwise a letter is read. Assumes nothing.
-use borrow.Author.Rules.{rules}
 use mathlib.Core.Path.{sym, ◌∙◌}
 use Rattle.message.proofs.Laws.{cond_true, cond_false, has_lt}
 use Rattle.message.specs.Values.{attribute_letter_at}

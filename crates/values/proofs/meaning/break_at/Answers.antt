@@ -1,5 +1,4 @@
 -- `values::meaning::break_at` meets its contract: the three bytes are looked for one after the other. Assumes nothing.
-use borrow.Author.Rules.{rules}
 use mathlib.Core.Path.{sym, ◌∙◌}
 use mathlib.Core.Bool.{◌||◌}
 use Rattle.message.specs.Reading.{is}

@@ -1,17 +1,13 @@
 -- `values::meaning::content_means` meets its contract: from each place of the content and of the word that the loop comes to, the letters left mean
 -- what is left of the word just where the content means the word. A comment leaves the word as it is; a letter that is refused, is one too many or
 -- differs decides that it does not. Assumes nothing.
-use borrow.Author.Rules.{rules}
-use Prim.Native.Nat.{suc, ◌-◌, ◌≤◌}
 use mathlib.Core.Path.{refl, sym, ◌∙◌}
 use native.Mathlib.Omega.{arith}
-use lib.ListN.{length, drop}
-use Rattle.message.specs.Class.{class_in}
+use lib.ListN.{length}
 use Rattle.scan.proofs.Said.{place_is, character_is}
 use Rattle.message.proofs.MarkupLoop.{bang_on}
-use Rattle.message.specs.Values.{content_meaning, means}
 use Rattle.message.proofs.Letters.{text_letter_on}
-use Rattle.values.proofs.Letters.{content_goes, content_stops, comment_goes, comment_stops, content_ends, Judged, spelled_refused, spelled_all, spelled_past, spelled_more, spelled_other, spelled_same}
+use Rattle.values.proofs.Letters.{content_goes, content_stops, comment_goes, comment_stops, content_ends, spelled_refused, spelled_all, spelled_past, spelled_more, spelled_other, spelled_same}
 use Rattle.values.proofs.meaning.content_means.Goals as goal
 
 pub loop-i-init : goal.loop-i-init

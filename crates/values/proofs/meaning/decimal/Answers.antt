@@ -1,16 +1,12 @@
 -- `values::meaning::decimal` meets its contract: from each place and number that the loop comes to, the letters left make of the number what all of
 -- them make of 0. The number stays below 2^32, so the next one fits. Assumes nothing.
-use borrow.Author.Rules.{rules}
-use Prim.Native.Nat.{suc, ◌-◌, ◌≤◌}
 use mathlib.Core.Path.{refl}
 use native.Mathlib.Omega.{arith}
 use lib.ListN.{length}
-use Rattle.message.specs.Class.{class_in}
 use Rattle.scan.proofs.Said.{character_is}
 use Rattle.message.proofs.Laws.{between_below, between_above}
-use Rattle.message.specs.Values.{attribute_meaning, number_from}
 use Rattle.message.proofs.Letters.{attribute_letter_on}
-use Rattle.values.proofs.Letters.{attribute_goes, attribute_stops, attribute_ends, Judged, counted_refused, counted_all, counted_none, counted_large, counted_digit}
+use Rattle.values.proofs.Letters.{attribute_goes, attribute_stops, attribute_ends, counted_refused, counted_all, counted_none, counted_large, counted_digit}
 use Rattle.values.proofs.meaning.decimal.Goals as goal
 
 pub loop-i-init : goal.loop-i-init

@@ -1,9 +1,6 @@
 -- `values::meaning::letter` meets its contract: a byte of any class stands for itself, and where none stands a reference or a longer character is
 -- read. Assumes nothing.
-use borrow.Author.Rules.{rules}
 use mathlib.Core.Path.{sym, ap, ◌∙◌}
-use mathlib.Core.Logic.{⊎_elim}
-use native.Mathlib.Omega.{arith}
 use lib.Dec.{leb}
 use borrow.Author.Tests.{le-leb, lt-leb}
 use Rattle.message.proofs.Laws.{cond_true, cond_false, has_in, has_out}
@@ -21,4 +18,5 @@ returns c =
     c.special.ensures
     ∙ elim c.if-at-s.branch [
       | then-at-s+else-class-ge-TEXT w ↦ cond_false _ (has_in _ _ _ w.if-at-s.true ∙ sym (ap (leb 1) w.class.ensures) ∙ lt-leb _ _ w.if-class-ge-TEXT.false)
-      | else-at-s w ↦ cond_false _ (has_out _ _ _ w.if-at-s.false) ]
+      | else-at-s w ↦ cond_false _ (has_out _ _ _ w.if-at-s.false)
+    ]

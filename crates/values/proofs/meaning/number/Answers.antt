@@ -1,8 +1,7 @@
 -- `values::meaning::number` meets its contract: a value that is empty, that is refused at its first letter, or whose first letter is a zero with
 -- others behind it names none, and otherwise its digits are counted. Assumes nothing.
-use borrow.Author.Rules.{rules}
 use mathlib.Core.Path.{◌∙◌}
-use mathlib.Core.Logic.{⊎_elim, inl, inr}
+use mathlib.Core.Logic.{inl, inr}
 use Rattle.scan.proofs.Said.{character_is}
 use Rattle.values.proofs.Letters.{number_empty, number_refused, number_leading, number_counted}
 use Rattle.values.proofs.meaning.number.Goals as goal

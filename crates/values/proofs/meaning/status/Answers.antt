@@ -1,5 +1,4 @@
 -- `values::meaning::status` meets its contract: the value is compared with the two texts in the order of the contract. Assumes nothing.
-use borrow.Author.Rules.{rules}
 use mathlib.Core.Path.{sym, ◌∙◌}
 use Rattle.message.proofs.Laws.{cond_true, cond_false}
 use Rattle.values.proofs.meaning.status.Goals as goal

@@ -1,5 +1,4 @@
 -- `values::meaning::text_letter` meets its contract: a line end that begins with CR is a line feed, and otherwise a letter is read. Assumes nothing.
-use borrow.Author.Rules.{rules}
 use mathlib.Core.Path.{sym, ◌∙◌}
 use Rattle.message.proofs.Laws.{cond_true, cond_false, has_lt}
 use Rattle.message.specs.Values.{text_letter_at}
