@@ -1,7 +1,7 @@
 -- How much of a list is written over, and with what (specs/Lent).
---     fit-places, fit-most     as many as there are places, at most, and 40 at most
+--     fit_places, fit_most     as many as there are places, at most, and 40 at most
 --     fit_all                  all of them, where neither bound is in the way
---     given-long, given-more   writing leaves the list its length, and one event more is one place set
+--     given_more, set_more     one event more is one place set
 -- Assumes nothing.
 use mathlib.Core.Path.{◌≡◌, refl, sym, ◌∙◌, ap}
 use mathlib.Core.Bool.{Bool, true, false, cond}
@@ -30,13 +30,6 @@ fit_most count places = or_none (leb count places) _ 40 (λ _. or_none (leb coun
 pub fit_all : (count places : ℕ) → count ≤ places → count ≤ 40 → fit_of count places ≡ count
 fit_all count places room few = simp (le-leb count places room, le-leb count 40 few)
 
-pub given_long : (n : ℕ) (list events : List Event) → n ≤ length list → n ≤ length events → length (given list events n) ≡ length list
-given_long zero list events room there = refl
-given_long (suc n) [] events room there = absurd (not-suc-le-zero room)
-given_long (suc n) (y ∷ list) [] room there = absurd (not-suc-le-zero there)
-given_long (suc n) (y ∷ list) (e ∷ events) room there =
-    ap suc (given_long n list events (le_of_suc-le-suc room) (le_of_suc-le-suc there))
-
 one_more : (n : ℕ) (list events : List Event) (d : Event) → n < length list → n < length events
     → set (given list events n) n (get_or events n d) ≡ given list events (suc n)
 one_more n [] events d room there = absurd (not-suc-le-zero room)
@@ -48,3 +41,7 @@ one_more (suc n) (y ∷ list) (e ∷ events) d room there =
 pub given_more : (n : ℕ) (list events : List Event) (d : Event) → n < length list → n < length events
     → set (given list events n) n (get_or events n d) ≡ given list events (n + 1)
 given_more n list events d room there = one_more n list events d room there ∙ ap (given list events) (sym (add-one n))
+
+pub set_more : (n : ℕ) (list events : List Event) (d : Event) (now : List Event) → now ≡ given list events n → n < length list → n < length events
+    → set now n (get_or events n d) ≡ given list events (n + 1)
+set_more n list events d now so_far room there = ap (λ (xs : List Event). set xs n (get_or events n d)) so_far ∙ given_more n list events d room there

@@ -1,17 +1,13 @@
 -- The laws about the record of a session: `Rows` has those of its tables, `NumberLaws` that of the numbers that are held.
 -- What an accepted call writes: `Noting` its notes one by one, `Sweeping` what becomes of the pushes, `Remarks` what it says at its end, `Performing` all of it.
--- `Named` has that of a number that a message names, `Ranges` those of the table of actions, `Records` those of the record. `Histories`, `Making`, `Following`, `Heard`,
--- `Conducts`, `Swapped` and `Twice` show promises.
--- For events that go to a lent list, `Given` says what is written, and `Fits` that all have room; `Steps`, `EventRow`, `Fields`, `Passing` and
--- `HandedOn` are steps of the walks by hand.
+-- `Records` has those of the record. `Histories`, `Making`, `Following`, `Heard`, `Conducts`, `Swapped` and `Twice` show promises.
+-- For events that go to a lent list, `Given` says what is written, and `Fits` that all have room.
 pub mod Rows
 pub mod NumberLaws
 pub mod Noting
 pub mod Sweeping
 pub mod Remarks
 pub mod Performing
-pub mod Named
-pub mod Ranges
 pub mod Records
 pub mod Histories
 pub mod Making
@@ -23,8 +19,3 @@ pub mod Twice
 pub mod OneAnswer
 pub mod Given
 pub mod Fits
-pub mod Steps
-pub mod EventRow
-pub mod Fields
-pub mod Passing
-pub mod HandedOn

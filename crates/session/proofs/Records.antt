@@ -130,7 +130,3 @@ unfolding performed_of
 when_performed s c m p found made =
     ap (λ (q : Performed). record { refusal = 0; next = q.next; events = q.events }) made
     ∙ ap (λ (n : Move). told_of (record { refusal = 0; next = moved_by s n; events = events_by s n })) found
-
-pub when_accepted : (d : Record) (c : Call) → refusal_of (session_of d) c ≡ 0
-    → told_of (answer 0 (session_of d) c) ≡ told_of (step (session_of d) c)
-when_accepted d c e = ap (λ (n : ℕ). told_of (answer n (session_of d) c)) (sym e)

@@ -1,5 +1,4 @@
-// Events are written to a lent list. The borrow checker does not cover a list of records that is lent, so `give`, and the calls that pass such a list on, are
-// proved by a walk of their MIR, by hand; `fit` decides, over numbers.
+// Events are written to a lent list: `fit` decides how many, over numbers.
 ghost use Rattle.std.specs.Prelude.{◌≡◌, length};
 ghost use Rattle.session.specs.Lent.{fit_of, given};
 

@@ -1,8 +1,6 @@
 -- `session::make` meets its contract. Assumes nothing.
 use mathlib.Core.Path.{sym, ◌∙◌}
-use borrow.Author.Tests.{not-true, not-false}
 use Rattle.conduct.specs.declared.State.TheVariants.{Waiting}
-use borrow.Author.Rules.{rules}
 use Rattle.session.proofs.make.Goals as goal
 
 pub returns-then-not-is_allowed : goal.returns-then-not-is_allowed

@@ -1,7 +1,6 @@
 -- `session::refused_making` meets its contract: a stopped session. Assumes nothing.
 use Rattle.conduct.specs.declared.State.TheVariants.{Stopped}
 use Rattle.conduct.specs.Session.{usual, with_resends}
-use borrow.Author.Rules.{rules}
 use Rattle.session.proofs.refused_making.Goals as goal
 
 pub returns : goal.returns

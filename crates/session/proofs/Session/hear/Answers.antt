@@ -4,7 +4,6 @@ use Rattle.message.specs.Reading.{Reading}
 use Rattle.message.specs.declared.Message.{Message}
 use Rattle.message.specs.Messages.{answer_said}
 use Rattle.session.specs.Answers.{call_of, told}
-use borrow.Author.Rules.{rules}
 use Rattle.session.proofs.Session.hear.Goals as goal
 
 pub returns-in-Read : goal.returns-in-Read

@@ -1,11 +1,8 @@
 -- `session::Table::is_blank_after` meets its contract: the rows that are left are blank just if all from the count on are. Assumes
 -- nothing.
 use mathlib.Core.Path.{◌≡◌, refl, sym, ◌∙◌}
-use Prim.Native.Nat.{◌-◌}
 use native.Mathlib.Omega.{arith}
-use lib.ListN.{length, drop}
-use borrow.Author.Tests.{not-true, not-false}
-use Rattle.conduct.specs.Lists.{all}
+use lib.ListN.{length}
 use Rattle.session.specs.Rows.{no_push, is_blank}
 use Rattle.session.proofs.Rows.{unmapped}
 use Rattle.conduct.proofs.Loops.{all_not, all_later, all_end}

@@ -1,5 +1,4 @@
 -- `session::calls::refused` meets its contract: the session as it was, and no event. Assumes nothing.
-use borrow.Author.Rules.{rules}
 use Rattle.session.proofs.calls.refused.Goals as goal
 
 pub returns : goal.returns

@@ -1,5 +1,4 @@
 -- `session::holding::awaited_in` meets its contract, state by state. Assumes nothing.
-use borrow.Author.Rules.{rules}
 use Rattle.session.proofs.holding.awaited_in.Goals as goal
 
 pub returns-in-Confirming : goal.returns-in-Confirming

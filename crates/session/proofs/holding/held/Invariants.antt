@@ -1,15 +1,10 @@
 -- `session::holding::held` meets its contract: the places that are filled have the number of the open SessionOk, if any, and then those of
 -- the pushes passed. Assumes nothing.
-use borrow.Author.Rules.{rules}
-use mathlib.Core.Path.{◌≡◌, sym, ap, ap₂, ◌∙◌}
-use mathlib.Core.List.{List, ◌++◌, append-nil}
-use Prim.Native.Nat.{ℕ, ◌+◌, ◌-◌, ◌≤◌}
-use native.Mathlib.Omega.{arith}
-use lib.ListN.{length, take, length-set}
+use mathlib.Core.Path.{◌≡◌}
+use mathlib.Core.List.{◌++◌}
+use Prim.Native.Nat.{◌+◌, ◌-◌, ◌≤◌}
+use lib.ListN.{length, take}
 use Rattle.conduct.specs.Session.{push_numbers}
-use Rattle.session.specs.Rows.{no_push, rows_of}
-use Rattle.session.proofs.Rows.{unmapped}
-use Rattle.session.proofs.NumberLaws.{held_next}
 use Rattle.session.proofs.holding.held.Given as goal
 
 abbrev pub invariant-loop-i : goal.invariant-loop-i

@@ -1,5 +1,4 @@
 -- `session::holding::with_awaited` meets its contract. Assumes nothing.
-use borrow.Author.Rules.{rules}
 use native.Mathlib.Omega.{arith}
 use Rattle.session.proofs.holding.with_awaited.Goals as goal
 

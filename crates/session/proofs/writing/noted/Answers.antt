@@ -1,6 +1,5 @@
 -- `session::writing::noted` meets its contract, by whether the code takes a number. Assumes nothing.
 use mathlib.Core.Path.{sym, ◌∙◌}
-use borrow.Author.Rules.{rules}
 use Rattle.session.specs.Rows.{list_of}
 use Rattle.session.proofs.Noting.{note_with, note_without}
 use Rattle.session.proofs.writing.noted.Goals as goal

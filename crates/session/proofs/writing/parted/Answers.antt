@@ -1,7 +1,6 @@
 -- `session::writing::parted` meets its contract: the notes of each parting, one behind the other. Assumes nothing.
 use mathlib.Core.List.{[]}
 use native.Mathlib.Omega.{arith}
-use borrow.Author.Rules.{rules}
 use Rattle.conduct.specs.Step.{noted}
 use Rattle.session.proofs.Noting.{written, written_events, room_for, note_next}
 use Rattle.session.proofs.writing.parted.Goals as goal
