@@ -1,7 +1,5 @@
-// The reader holds on to the message that it reads and its place in it (document 01, "Form by location"). Each function over the
-// struct is proved by a walk of its steps, so there are two: `new` makes the struct, and `message` hands its slice and its place to
-// `messages::message`, which is covered and does the work. `read`, whose parameter is a plain slice, stands above them: who calls it
-// needs no walk.
+// The reader holds on to the message that it reads and its place in it (document 01, "Form by location"): `new` makes the struct, and
+// `message` hands its slice and its place to `messages::message`, which does the work.
 ghost use Rattle.std.specs.Prelude.{◌≡◌};
 ghost use Rattle.message.specs.Class.{class_of};
 ghost use Rattle.message.specs.Limits.{link_limits};
