@@ -9,7 +9,7 @@ use native.Mathlib.Omega.{arith}
 use lib.ListN.{length, take, drop, set, get_or, length-append}
 use lib.Seq.{paste, paste-suc, length-paste, take-paste, take-length, take-append_seam, get_or-append_seam}
 use lib.Dec.{ltb, leb}
-use borrow.Author.Tests.{lt-ltb, le-leb, lt-leb, leb-true, leb-false}
+use borrow.Author.Tests.{lt-ltb, le-leb, leb-true, leb-false}
 use Rattle.laws.specs.Search.{least}
 use Rattle.laws.proofs.Search.{least_below}
 use Rattle.laws.proofs.Tests.{true_false}
@@ -36,13 +36,6 @@ module _ (out : List ℕ) (at : ℕ) (w : List ℕ) where
       go : (t : Bool) → leb (at + length w) (length out) ≡ t → length (cond t (paste out at w (length w)) out) ≡ length out
       go true e = length-paste out at w (length w) (leb-true (at + length w) (length out) e) (omega arith)
       go false e = refl
-
--- a field that has no room
-pub put_none : (out : List ℕ) (at : ℕ) (text : List ℕ) (behind : ℕ) → length out ≤ at + length text
-    → (at ≡ end_behind (length out) at (field text behind)) × (out ≡ put_at out at (field text behind))
-put_none out at text behind short =
-    let test = lt-leb (at + length (field text behind)) (length out) (omega (arith, length-append text (behind ∷ []))) in
-    (rw test, rw test)
 
 -- a text that is copied, and the byte that is set behind it
 pub put_set : (out : List ℕ) (at : ℕ) (text : List ℕ) (behind : ℕ) {copied : List ℕ} → at + length text < length out
