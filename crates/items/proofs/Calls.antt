@@ -3,7 +3,7 @@ use mathlib.Core.Path.{◌≡◌, ap, ◌∙◌}
 use mathlib.Core.List.{List}
 use Prim.Native.Nat.{ℕ}
 use lib.ListN.{length, take}
-use Rattle.io.specs.Counts.{IsPrefixLen}
+use Rattle.texts.specs.Prefixes.{IsPrefixLen}
 use Rattle.framing.specs.declared.Answer.{Answer}
 use Rattle.framing.specs.Cutting.{link_limit, answer_of, store_after}
 use Rattle.items.specs.declared.turns.Held.{Held}

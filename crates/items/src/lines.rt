@@ -1,6 +1,6 @@
 // The lines of the listing, each written to the start of a lent array. A line's length is answered.
 ghost use Rattle.std.specs.Prelude.{◌≡◌, ◌++◌, ◌+◌, ◌≤◌, length, take};
-ghost use Rattle.io.specs.Counts.{IsPrefixLen};
+ghost use Rattle.texts.specs.Prefixes.{IsPrefixLen};
 ghost use Rattle.texts.specs.Fields.{space, line_end, field, decimal};
 ghost use Rattle.message.specs.Words.{kind_name};
 ghost use Rattle.items.specs.Texts.{dash};

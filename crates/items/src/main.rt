@@ -10,9 +10,9 @@ mod start;
 mod turns;
 
 ghost use Rattle.std.specs.Prelude.{◌≤◌, length};
-ghost use Rattle.io.specs.Counts.{IsPrefixLen};
+ghost use Rattle.texts.specs.Prefixes.{IsPrefixLen};
 
-use libc::{STDIN_FILENO, STDOUT_FILENO};
+use std::io::{Read, Write};
 use turns::Held;
 
 // The start of the input: how many bytes came, and whether a read failed.
@@ -38,41 +38,47 @@ struct Listed {
     held: Held,
 }
 
-fn write_header() -> bool {
+// Writes the header, and answers whether it was written.
+fn write_header<W: Write>(output: &mut W) -> bool {
     let mut out = [0u8; 128];
     let length = lines::header(&mut out);
-    io::write_all(STDOUT_FILENO, &out[..length])
+    output.write_all(&out[..length]).is_ok()
 }
 
-fn write_stop() {
+// The last lines: where one cannot be written there is nothing left to do.
+fn write_stop<W: Write>(output: &mut W) {
     let mut out = [0u8; 128];
     let length = lines::stop(&mut out);
-    io::write_all(STDOUT_FILENO, &out[..length]);
+    let _ = output.write_all(&out[..length]);
 }
 
-fn write_end(waiting: u32) {
+fn write_end<W: Write>(output: &mut W, waiting: u32) {
     let mut out = [0u8; 128];
     let length = lines::end(&mut out, waiting);
-    io::write_all(STDOUT_FILENO, &out[..length]);
+    let _ = output.write_all(&out[..length]);
 }
 
-// Reads until `first` is full or the input ends; `io::read_full` would not tell that from a read that failed. Each read that goes on brings
-// a byte or more, so that the turns are never used up.
-fn read_start(first: &mut [u8]) -> Begun
+// Reads until `first` is full or the input ends; `read_exact` would not tell that from a read that failed, nor how much came.
+fn read_start<R: Read>(input: &mut R, first: &mut [u8]) -> Begun
     ensures { IsPrefixLen result.length first.new }
 {
     let mut done = 0;
-    let mut turns = first.len();
-    while turns > 0 && done < first.len() {
-        let got = libc::read(STDIN_FILENO, &mut first[done..]);
-        if got <= 0 {
-            return Begun {
-                length: done,
-                failed: got < 0,
-            };
+    while done < first.len() {
+        match input.read(&mut first[done..]) {
+            Ok(0) => {
+                return Begun {
+                    length: done,
+                    failed: false,
+                };
+            }
+            Ok(n) => done += n,
+            Err(_) => {
+                return Begun {
+                    length: done,
+                    failed: true,
+                };
+            }
         }
-        done += io::count(got, &first[done..]);
-        turns -= 1;
     }
     Begun {
         length: done,
@@ -81,7 +87,13 @@ fn read_start(first: &mut [u8]) -> Begun
 }
 
 // One turn on what is left of a piece. No run comes to the number at which it stops.
-fn list_next(boundary: &[u8], store: &mut [u8], piece: &[u8], held: Held) -> Listed
+fn list_next<W: Write>(
+    output: &mut W,
+    boundary: &[u8],
+    store: &mut [u8],
+    piece: &[u8],
+    held: Held,
+) -> Listed
     requires { 65536 ≤ length store.old }
     ensures { result.taken ≤ length piece.now }
 {
@@ -95,24 +107,30 @@ fn list_next(boundary: &[u8], store: &mut [u8], piece: &[u8], held: Held) -> Lis
     let mut out = [0u8; 128];
     let turn = turns::next(boundary, store, piece, held, &mut out);
     let length = turn.length;
-    let written = io::write_all(STDOUT_FILENO, &out[..length]);
+    let failed = output.write_all(&out[..length]).is_err();
     let after = turn.held;
     Listed {
         taken: turn.taken,
-        failed: !written,
+        failed,
         held: after,
     }
 }
 
 // Lists the items that end in a piece. Each turn takes a byte or more, so that no piece uses up its turns.
-fn list_piece(boundary: &[u8], store: &mut [u8], piece: &[u8], first: Held) -> Step
+fn list_piece<W: Write>(
+    output: &mut W,
+    boundary: &[u8],
+    store: &mut [u8],
+    piece: &[u8],
+    first: Held,
+) -> Step
     requires { 65536 ≤ length store.old }
 {
     let mut held = first;
     let mut at = 0;
     let mut turns = piece.len();
     while turns > 0 && at < piece.len() {
-        let listed = list_next(boundary, store, &piece[at..], held);
+        let listed = list_next(output, boundary, store, &piece[at..], held);
         held = listed.held;
         if listed.failed {
             return Step {
@@ -132,36 +150,49 @@ fn list_piece(boundary: &[u8], store: &mut [u8], piece: &[u8], first: Held) -> S
 }
 
 // Reads once, and lists what came.
-fn list_some(boundary: &[u8], store: &mut [u8], held: Held) -> Step
+fn list_some<R: Read, W: Write>(
+    input: &mut R,
+    output: &mut W,
+    boundary: &[u8],
+    store: &mut [u8],
+    held: Held,
+) -> Step
     requires { 65536 ≤ length store.old }
 {
-    let mut piece = io::buffer();
-    let got = libc::read(STDIN_FILENO, &mut piece);
-    if got <= 0 {
-        return Step {
+    let mut piece = [0u8; 4096];
+    match input.read(&mut piece) {
+        Ok(0) => Step {
             more: false,
-            failed: got < 0,
+            failed: false,
             held,
-        };
+        },
+        Ok(n) => list_piece(output, boundary, store, &piece[..n], held),
+        Err(_) => Step {
+            more: false,
+            failed: true,
+            held,
+        },
     }
-    let n = io::count(got, &piece);
-    list_piece(boundary, store, &piece[..n], held)
 }
 
-// Reads to the end of the input. A loop has to end, and nothing says that the input does: so the turns are counted down, from a number that
-// no run uses up.
-fn list_all(boundary: &[u8], store: &mut [u8], first: Held) -> Step
+// Reads to the end of the input. A loop has to end, and nothing says that the input does: so the turns are counted, up to a number that no
+// run comes to.
+fn list_all<R: Read, W: Write>(
+    input: &mut R,
+    output: &mut W,
+    boundary: &[u8],
+    store: &mut [u8],
+    first: Held,
+) -> Step
     requires { 65536 ≤ length store.old }
 {
     let mut held = first;
-    let mut turns = u64::MAX;
-    while turns > 0 {
-        let step = list_some(boundary, store, held);
-        held = step.held;
+    for _ in 0..u64::MAX {
+        let step = list_some(input, output, boundary, store, held);
         if !step.more {
             return step;
         }
-        turns -= 1;
+        held = step.held;
     }
     Step {
         more: true,
@@ -171,32 +202,35 @@ fn list_all(boundary: &[u8], store: &mut [u8], first: Held) -> Step
 }
 
 // Lists an input that begins with these bytes: its first 17, or all if they are fewer, or those before a read that failed.
-fn list_input(first: &[u8], failed: bool) {
+fn list_input<R: Read, W: Write>(input: &mut R, output: &mut W, first: &[u8], failed: bool) {
     let end = start::boundary_end(first);
     if start::refused_end(end) {
         // Where a read failed, an LF that is not there may be among the bytes that did not come.
         if end == 0 || !failed {
-            write_stop();
+            write_stop(output);
         }
         return;
     }
-    let mut store = io::large_buffer();
+    let mut store = [0u8; 65536];
     let fresh = turns::fresh();
-    let step = list_piece(&first[..end], &mut store, &first[end + 1..], fresh);
+    let step = list_piece(output, &first[..end], &mut store, &first[end + 1..], fresh);
     if failed || step.failed {
         return;
     }
-    let last = list_all(&first[..end], &mut store, step.held);
+    let last = list_all(input, output, &first[..end], &mut store, step.held);
     if !last.failed {
-        write_end(last.held.gathered);
+        write_end(output, last.held.gathered);
     }
 }
 
-fn main() {
-    if write_header() {
+// The program has no exit status: what failed shows by the last line, which is not there.
+fn main(rt: HostRuntime) {
+    let mut input = rt.stdin();
+    let mut output = rt.stdout();
+    if write_header(&mut output) {
         let mut first = [0u8; 17];
-        let begun = read_start(&mut first);
+        let begun = read_start(&mut input, &mut first);
         let n = begun.length;
-        list_input(&first[..n], begun.failed);
+        list_input(&mut input, &mut output, &first[..n], begun.failed);
     }
 }

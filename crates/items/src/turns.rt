@@ -1,6 +1,6 @@
 // A turn of the program: one call of the framing, and the line that it gives to print.
 ghost use Rattle.std.specs.Prelude.{◌≡◌, ◌≤◌, ◌<◌, length, take};
-ghost use Rattle.io.specs.Counts.{IsPrefixLen};
+ghost use Rattle.texts.specs.Prefixes.{IsPrefixLen};
 ghost use Rattle.framing.specs.Cutting.{item_length, store_after, link_limit};
 ghost use Rattle.items.specs.Lines.{line_after, number_after};
 ghost use Rattle.items.specs.Turns.{fresh_held, line_of_turn, turn_of};

@@ -1,10 +1,12 @@
 // Rounds of one call of the session with 32 pushes open, for bench/run to time: standard input says `tick N` or `ok N`. It prints how many pushes are open in the end.
 #![tactic(auto)]
 
+ghost use Rattle.texts.specs.Prefixes.{IsPrefixLen};
+
 use conduct::{Awaited, State};
-use libc::{STDIN_FILENO, STDOUT_FILENO};
 use message::{Advice, Kind, Message, Number, NumberValue, Status, StatusValue, TypeValue};
 use session::Session;
+use std::io::Read;
 
 const PLACES: usize = 40;
 
@@ -114,10 +116,26 @@ fn run(line: &[u8]) -> Session {
     first
 }
 
-fn main() {
-    let mut input = [0u8; 64];
-    let n = io::read_full(STDIN_FILENO, &mut input);
-    let last = run(&input[..n]);
+// Reads until `line` is full, the input ends or a read fails, and answers how many bytes came.
+fn read_full<R: Read>(input: &mut R, line: &mut [u8]) -> usize
+    ensures { IsPrefixLen result line.new }
+{
+    let mut done = 0;
+    while done < line.len() {
+        match input.read(&mut line[done..]) {
+            Ok(0) => return done,
+            Ok(n) => done += n,
+            Err(_) => return done,
+        }
+    }
+    done
+}
+
+// Where the number cannot be printed there is nothing left to do.
+fn main(rt: HostRuntime) {
+    let mut line = [0u8; 64];
+    let n = read_full(&mut rt.stdin(), &mut line);
+    let last = run(&line[..n]);
     let table = last.pushes;
-    io::print_decimal(STDOUT_FILENO, table.count as u64);
+    let _ = rt.print(table.count);
 }

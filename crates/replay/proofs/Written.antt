@@ -7,8 +7,8 @@ use native.Mathlib.Numerals.{add-one}
 use native.Mathlib.Omega.{arith}
 use lib.ListN.{length, take, get_or, length-append}
 use lib.Seq.{take-suc}
-use Rattle.io.specs.Counts.{IsPrefixLen}
-use Rattle.io.proofs.Counting.{prefix_len_of_le}
+use Rattle.texts.specs.Prefixes.{IsPrefixLen}
+use Rattle.texts.proofs.Prefixes.{prefix_len_of_le}
 use Rattle.texts.specs.Fields.{space, field, decimal, end_behind, put_at}
 use Rattle.texts.proofs.Fields.{put_front, put_end, put_length, decimal_within_20}
 use Rattle.conduct.specs.declared.Event.{Event}

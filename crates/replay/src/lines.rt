@@ -1,6 +1,6 @@
 // The lines that are printed, each written to the start of a lent array. What is written is as long as the answer says.
 ghost use Rattle.std.specs.Prelude.{◌≡◌, ◌++◌, ◌+◌, ◌≤◌, length, take};
-ghost use Rattle.io.specs.Counts.{IsPrefixLen};
+ghost use Rattle.texts.specs.Prefixes.{IsPrefixLen};
 ghost use Rattle.texts.specs.Fields.{space, field};
 ghost use Rattle.session.specs.Rows.{list_of};
 ghost use Rattle.replay.specs.Lines.{event_line, event_lines, refused_line, answer_lines, bad_line, stop_line, end_line, state_name, last_line};

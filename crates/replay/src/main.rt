@@ -4,6 +4,7 @@
 #![tactic(auto)]
 
 mod lines;
+mod output;
 mod runs;
 mod script;
 
@@ -15,10 +16,11 @@ ghost use Rattle.replay.specs.Replay.{taken_rest};
 ghost use Rattle.replay.specs.Turns.{boundary, taken_after, turn_of};
 
 use framing::{Item, LINK_LIMIT};
-use libc::{STDIN_FILENO, STDOUT_FILENO};
+use output::Output;
 use runs::{Phase, Run};
 use script::Line;
 use session::Told;
+use std::io::{Read, Write};
 
 // The event list of a call has this many places.
 const PLACES: usize = 40;
@@ -48,61 +50,52 @@ struct Step {
     held: Held,
 }
 
-// After a write that failed there is nothing more to say. With both ends closed no later write leaves a gap, and the next read fails, so
-// that no last line follows.
-fn write(bytes: &[u8]) {
-    if !io::write_all(STDOUT_FILENO, bytes) {
-        libc::close(STDOUT_FILENO);
-        libc::close(STDIN_FILENO);
-    }
-}
-
-fn run_call(run: Run, told: Told) -> Run
+fn run_call<W: Write>(output: &mut Output<W>, run: Run, told: Told) -> Run
     requires { told.events.count ≤ 40 }
     ensures { result ≡ after_call run told }
 {
-    let mut out = io::buffer();
+    let mut out = [0u8; 4096];
     let length = lines::answer(&mut out, run.call, told);
-    write(&out[..length]);
+    output.write(&out[..length]);
     runs::after_call(run, told)
 }
 
-fn run_ticks(first: Run, count: u32) -> Run
+fn run_ticks<W: Write>(output: &mut Output<W>, first: Run, count: u32) -> Run
     ensures { result ≡ (ticked count first).run }
 {
     let mut run = first;
     let mut left = count;
     while 0 < left {
         let session = run.session;
-        run = run_call(run, session.tick(PLACES));
+        run = run_call(output, run, session.tick(PLACES));
         left -= 1;
     }
     run
 }
 
-fn write_bad(run: Run) -> Run
+fn write_bad<W: Write>(output: &mut Output<W>, run: Run) -> Run
     ensures { result ≡ run }
 {
-    let mut out = io::buffer();
+    let mut out = [0u8; 4096];
     let length = lines::bad(&mut out, run.line);
-    write(&out[..length]);
+    output.write(&out[..length]);
     run
 }
 
 // A line of a running session.
-fn run_line(run: Run, line: Line, bytes: &[u8]) -> Run
+fn run_line<W: Write>(output: &mut Output<W>, run: Run, line: Line, bytes: &[u8]) -> Run
     requires { bytes_of_word line ≤ length bytes.now }
     ensures { result ≡ (ran run line bytes.now).run }
 {
     let session = run.session;
     match line {
         Line::Nothing => run,
-        Line::Set(_) => write_bad(run),
-        Line::Ticks(count) => run_ticks(run, count),
-        Line::Other(call) => run_call(run, session.told(call, PLACES)),
-        Line::Message => run_call(run, session.hear(&bytes[MESSAGE_AT..], PLACES)),
+        Line::Set(_) => write_bad(output, run),
+        Line::Ticks(count) => run_ticks(output, run, count),
+        Line::Other(call) => run_call(output, run, session.told(call, PLACES)),
+        Line::Message => run_call(output, run, session.hear(&bytes[MESSAGE_AT..], PLACES)),
         Line::Last(last) => runs::renumbered(run, last),
-        Line::Bad => write_bad(run),
+        Line::Bad => write_bad(output, run),
     }
 }
 
@@ -121,7 +114,7 @@ fn set_line(run: Run, line: Line) -> Run
     }
 }
 
-fn take_line(before: Run, line: Line, bytes: &[u8]) -> Run
+fn take_line<W: Write>(output: &mut Output<W>, before: Run, line: Line, bytes: &[u8]) -> Run
     requires { bytes_of_word line ≤ length bytes.now }
     ensures { result ≡ (Runs·taken before line bytes.now).run }
 {
@@ -129,30 +122,30 @@ fn take_line(before: Run, line: Line, bytes: &[u8]) -> Run
     let phase = run.phase;
     match phase {
         Phase::Settling => runs::next_line(set_line(run, line)),
-        Phase::Running => runs::next_line(run_line(run, line, bytes)),
+        Phase::Running => runs::next_line(run_line(output, run, line, bytes)),
         Phase::Refused(_) => run,
     }
 }
 
 // What the framing has completed: a line, or nothing yet.
-fn take_item(run: Run, item: Item, store: &[u8]) -> Run
+fn take_item<W: Write>(output: &mut Output<W>, run: Run, item: Item, store: &[u8]) -> Run
     requires { item_length item ≤ length store.now }
     ensures { result ≡ (taken_after run item store.now).run }
 {
     match item {
         Item::NotYet => run,
-        Item::Empty => take_line(run, Line::Nothing, &store[..0]),
+        Item::Empty => take_line(output, run, Line::Nothing, &store[..0]),
         Item::Message(length) => {
             let length = length as usize;
             let bytes = &store[..length];
-            take_line(run, script::line_of(bytes), bytes)
+            take_line(output, run, script::line_of(bytes), bytes)
         }
-        Item::TooLong => take_line(run, Line::Bad, &store[..0]),
+        Item::TooLong => take_line(output, run, Line::Bad, &store[..0]),
     }
 }
 
 // Cuts the piece, up to the end of one line, and does what it says. A boundary of one byte is there or not, so that no match is ever held.
-fn take_next(store: &mut [u8], piece: &[u8], held: Held) -> Turn
+fn take_next<W: Write>(output: &mut Output<W>, store: &mut [u8], piece: &[u8], held: Held) -> Turn
     requires { 65536 ≤ length store.old }
     ensures within { result.taken ≤ length piece.now }
     ensures turned { result ≡ turn_of store.old piece.now held }
@@ -165,20 +158,20 @@ fn take_next(store: &mut [u8], piece: &[u8], held: Held) -> Turn
         taken: said.taken,
         held: Held {
             gathered: said.gathered,
-            run: take_item(run, item, store),
+            run: take_item(output, run, item, store),
         },
     }
 }
 
 // Takes the lines that end in a piece. Each turn takes a byte or more, so that no piece uses up its turns.
-fn take_piece(store: &mut [u8], piece: &[u8], first: Held) -> Held
+fn take_piece<W: Write>(output: &mut Output<W>, store: &mut [u8], piece: &[u8], first: Held) -> Held
     requires { 65536 ≤ length store.old }
 {
     let mut held = first;
     let mut at = 0;
     let mut turns = piece.len();
     while turns > 0 && at < piece.len() {
-        let turn = take_next(store, &piece[at..], held);
+        let turn = take_next(output, store, &piece[at..], held);
         held = turn.held;
         at += turn.taken;
         turns -= 1;
@@ -186,42 +179,55 @@ fn take_piece(store: &mut [u8], piece: &[u8], first: Held) -> Held
     held
 }
 
-// Reads once, and takes what came.
-fn take_some(store: &mut [u8], held: Held) -> Step
+// Reads once, and takes what came. Whether its lines could be written is known then: where a write failed nothing more is read.
+fn take_some<R: Read, W: Write>(
+    input: &mut R,
+    output: &mut Output<W>,
+    store: &mut [u8],
+    held: Held,
+) -> Step
     requires { 65536 ≤ length store.old }
 {
-    let mut piece = io::buffer();
-    let got = libc::read(STDIN_FILENO, &mut piece);
-    if got <= 0 {
-        return Step {
+    let mut piece = [0u8; 4096];
+    match input.read(&mut piece) {
+        Ok(0) => Step {
             more: false,
-            failed: got < 0,
+            failed: false,
             held,
-        };
-    }
-    let n = io::count(got, &piece);
-    let after = take_piece(store, &piece[..n], held);
-    Step {
-        more: true,
-        failed: false,
-        held: after,
+        },
+        Ok(n) => {
+            let after = take_piece(output, store, &piece[..n], held);
+            Step {
+                more: !output.failed(),
+                failed: output.failed(),
+                held: after,
+            }
+        }
+        Err(_) => Step {
+            more: false,
+            failed: true,
+            held,
+        },
     }
 }
 
-// Reads to the end of the script. A loop has to end, and nothing says that the input does: so the turns are counted down, from a number
-// that no run uses up.
-fn take_all(store: &mut [u8], first: Held) -> Step
+// Reads to the end of the script. A loop has to end, and nothing says that the input does: so the turns are counted, up to a number that no
+// run comes to.
+fn take_all<R: Read, W: Write>(
+    input: &mut R,
+    output: &mut Output<W>,
+    store: &mut [u8],
+    first: Held,
+) -> Step
     requires { 65536 ≤ length store.old }
 {
     let mut held = first;
-    let mut turns = u64::MAX;
-    while turns > 0 {
-        let step = take_some(store, held);
-        held = step.held;
+    for _ in 0..u64::MAX {
+        let step = take_some(input, output, store, held);
         if !step.more {
             return step;
         }
-        turns -= 1;
+        held = step.held;
     }
     Step {
         more: true,
@@ -231,7 +237,7 @@ fn take_all(store: &mut [u8], first: Held) -> Step
 }
 
 // A last line without an LF counts too.
-fn take_rest(store: &[u8], held: Held) -> Run
+fn take_rest<W: Write>(output: &mut Output<W>, store: &[u8], held: Held) -> Run
     requires { 65536 ≤ length store.now }
     ensures { result ≡ (taken_rest held.run (take held.gathered store.now)).run }
 {
@@ -240,32 +246,35 @@ fn take_rest(store: &[u8], held: Held) -> Run
         return run;
     }
     if LINK_LIMIT < held.gathered {
-        return take_line(run, Line::Bad, &store[..0]);
+        return take_line(output, run, Line::Bad, &store[..0]);
     }
     let length = held.gathered as usize;
     let bytes = &store[..length];
-    take_line(run, script::line_of(bytes), bytes)
+    take_line(output, run, script::line_of(bytes), bytes)
 }
 
 // The end of the script: it ends a last line, and the settings too.
-fn finish(store: &[u8], held: Held)
+fn finish<W: Write>(output: &mut Output<W>, store: &[u8], held: Held)
     requires { 65536 ≤ length store.now }
 {
-    let run = take_rest(store, held);
+    let run = take_rest(output, store, held);
     let ended = runs::ready(run, Line::Bad);
-    let mut out = io::buffer();
+    let mut out = [0u8; 4096];
     let length = lines::last(&mut out, ended);
-    write(&out[..length]);
+    output.write(&out[..length]);
 }
 
-fn main() {
-    let mut store = io::large_buffer();
+// The program has no exit status: what failed shows by the last line, which is not there.
+fn main(rt: HostRuntime) {
+    let mut input = rt.stdin();
+    let mut output = Output::new(rt.stdout());
+    let mut store = [0u8; 65536];
     let fresh = Held {
         gathered: 0,
         run: runs::fresh(),
     };
-    let step = take_all(&mut store, fresh);
+    let step = take_all(&mut input, &mut output, &mut store, fresh);
     if !step.failed {
-        finish(&store, step.held);
+        finish(&mut output, &store, step.held);
     }
 }

@@ -4,18 +4,16 @@
 use mathlib.Core.Path.{◌≡◌, refl, sym, ap, ap₂, ◌∙◌}
 use mathlib.Core.Bool.{Bool, true, false, cond}
 use mathlib.Core.List.{List, [], ◌∷◌, ◌++◌}
-use Prim.Native.Nat.{ℕ, zero, suc, ◌+◌, ◌-◌, ◌/◌, ◌%◌, ◌^◌, ◌≤◌, ◌<◌}
-use native.Mathlib.Nat.{pow-suc, pow-le-pow_right}
+use Prim.Native.Nat.{ℕ, zero, suc, ◌+◌, ◌/◌, ◌%◌, ◌^◌, ◌≤◌, ◌<◌}
 use native.Mathlib.Omega.{arith}
 use lib.ListN.{length, take, drop, set, get_or, length-append}
 use lib.Seq.{paste, paste-suc, length-paste, take-paste, take-length, take-append_seam, get_or-append_seam}
 use lib.Dec.{ltb, leb}
-use borrow.Author.Tests.{lt-ltb, le-ltb, le-leb, lt-leb, leb-true, leb-false}
-use Rattle.io.specs.Digits.{last_digits, hex_digit_ascii, IsDigitCount}
+use borrow.Author.Tests.{lt-ltb, le-leb, leb-true, leb-false}
 use Rattle.laws.specs.Search.{least}
-use Rattle.laws.proofs.Search.{least_is, least_below}
+use Rattle.laws.proofs.Search.{least_below}
 use Rattle.laws.proofs.Tests.{true_false}
-use Rattle.texts.specs.Fields.{field, places, decimal, end_behind, put_at}
+use Rattle.texts.specs.Fields.{field, places, last_digits, decimal, end_behind, put_at}
 
 -- ---- a field from the place `at` on
 
@@ -39,13 +37,6 @@ module _ (out : List ℕ) (at : ℕ) (w : List ℕ) where
       go true e = length-paste out at w (length w) (leb-true (at + length w) (length out) e) (omega arith)
       go false e = refl
 
--- a field that has no room
-pub put_none : (out : List ℕ) (at : ℕ) (text : List ℕ) (behind : ℕ) → length out ≤ at + length text
-    → (at ≡ end_behind (length out) at (field text behind)) × (out ≡ put_at out at (field text behind))
-put_none out at text behind short =
-    let test = lt-leb (at + length (field text behind)) (length out) (omega (arith, length-append text (behind ∷ []))) in
-    (rw test, rw test)
-
 -- a text that is copied, and the byte that is set behind it
 pub put_set : (out : List ℕ) (at : ℕ) (text : List ℕ) (behind : ℕ) {copied : List ℕ} → at + length text < length out
     → copied ≡ paste out at text (length text)
@@ -66,31 +57,6 @@ put_set out at text behind {copied} room is =
 
 -- ---- numbers in decimal
 
--- a power of ten is above its exponent
-below_power : (k : ℕ) → k < 10 ^ k
-below_power zero = omega arith
-below_power (suc k) = let less = below_power k in rw (pow-suc 10 k) (omega arith)
-
--- the fewest digits that hold n are as many as `places` says
-places_fewest : (n k : ℕ) → IsDigitCount 10 1 n (suc k) → places n ≡ suc k
-unfolding places least
-places_fewest n zero f = ap suc (none n refl)
-  where
-    none : (m : ℕ) → n ≡ m → least (λ j. ltb n (10 ^ suc j)) m ≡ 0
-    none zero e = refl
-    none (suc m) e = rw (lt-ltb n (10 ^ 1) f.1)
-places_fewest n (suc k) f =
-    let less : suc (suc k) - 1 ≡ suc k = omega arith in
-    let enough : 10 ^ suc k ≤ n = rw less at (f.2 (omega arith)) in
-    ap suc
-    (least_is (λ j. ltb n (10 ^ suc j)) n (suc k) (omega (arith, below_power (suc k))) (lt-ltb _ _ f.1)
-    (λ j before. le-ltb n (10 ^ suc j) (omega (arith, pow-le-pow_right {n = 10} (omega arith) {i = suc j} {j = suc k} (omega arith)))))
-
-pub decimal_is : (n r : ℕ) → IsDigitCount 10 1 n r → last_digits 10 r n ≡ decimal n
-unfolding decimal
-decimal_is n zero f = absurd (omega (arith, f.0))
-decimal_is n (suc k) f = ap (λ (p : ℕ). last_digits 10 p n) (sym (places_fewest n k f))
-
 -- so many digits hold a number that is below the power
 places_within : (n k : ℕ) → n < 10 ^ suc k → places n ≤ suc k
 unfolding places
@@ -106,9 +72,9 @@ places_within n k small = go (leb found k) refl
     go true e = omega (arith, leb-true found k e)
     go false e = absurd (true_false (lt-ltb n (10 ^ suc k) small) (least_below test n k (leb-false found k e)))
 
-digits_long : (k n : ℕ) → length (last_digits 10 k n) ≡ k
+digits_long : (k n : ℕ) → length (last_digits k n) ≡ k
 digits_long zero n = refl
-digits_long (suc k) n = let rest = digits_long k (n / 10) in omega (arith, length-append (last_digits 10 k (n / 10)) (hex_digit_ascii (n % 10) ∷ []))
+digits_long (suc k) n = let rest = digits_long k (n / 10) in omega (arith, length-append (last_digits k (n / 10)) ((48 + n % 10) ∷ []))
 
 module _ (n : ℕ) where
   decimal_long : length (decimal n) ≡ places n

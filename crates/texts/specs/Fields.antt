@@ -1,8 +1,7 @@
 -- Fields of a line, numbers in decimal, and what is written of a field into lent bytes. Assumes nothing.
-use Rattle.std.specs.Prelude.{ℕ, suc, ◌+◌, ◌^◌, cond, List, [], ◌∷◌, ◌++◌, ltb, leb, eqb, length}
+use Rattle.std.specs.Prelude.{ℕ, zero, suc, ◌+◌, ◌/◌, ◌%◌, ◌^◌, cond, List, [], ◌∷◌, ◌++◌, ltb, leb, eqb, length}
 use Rattle.std.proofs.Math.Seq.{paste}
 use Rattle.laws.specs.Search.{least}
-use Rattle.io.specs.Digits.{last_digits}
 use Rattle.message.specs.declared.Number.{Number}
 use Rattle.message.specs.declared.Number.TheVariants.{Nothing, Names}
 
@@ -21,10 +20,15 @@ field text behind = text ++ (behind ∷ [])
 unfoldable pub places : ℕ → ℕ
 places n = suc (least (λ k. ltb n (10 ^ suc k)) n)
 
+-- the last so many digits of n, the most significant first, with zeros in front where n has fewer
+abbrev pub last_digits : ℕ → ℕ → List ℕ
+last_digits zero n = []
+last_digits (suc k) n = last_digits k (n / 10) ++ ((48 + n % 10) ∷ [])
+
 -- a number in decimal, without leading zeros
 unfoldable pub decimal : ℕ → List ℕ
 unfolding places
-decimal n = last_digits 10 (places n) n
+decimal n = last_digits (places n) n
 
 -- ---- a field w from the place `at` on, in so many places; where it has no room nothing is written
 

@@ -6,7 +6,7 @@ ghost use Rattle.std.specs.Prelude.{◌≡◌, ◌+◌, ◌≤◌, length, take,
 ghost use Rattle.std.proofs.Math.Seq.{paste};
 ghost use Rattle.laws.specs.Bytes.{same_bytes};
 ghost use Rattle.message.specs.Values.{decimal_from, decimal_of};
-ghost use Rattle.texts.specs.Fields.{field, decimal, end_behind, put_at, zero_alone};
+ghost use Rattle.texts.specs.Fields.{field, places, last_digits, decimal, end_behind, put_at, zero_alone};
 
 use message::Number;
 
@@ -34,8 +34,48 @@ pub fn put_number(out: &mut [u8], at: usize, number: u64, behind: u8) -> usize
     ensures written { out.new ≡ put_at out.old at (field (decimal number) behind) }
 {
     let mut digits = [0u8; 20];
-    let count = io::decimal(number, &mut digits);
+    let count = decimal(number, &mut digits);
     put(out, at, &digits[..count], behind)
+}
+
+// Writes a number in decimal to the start of `out`, and answers how many digits it has.
+fn decimal(number: u64, out: &mut [u8; 20]) -> usize
+    ensures within { result ≤ 20 }
+    ensures written { take result out.new ≡ decimal number }
+    ensures kept { drop result out.new ≡ drop result out.old }
+{
+    let count = digit_count(number);
+    write_digits(number, count, out);
+    count
+}
+
+// How many digits hold a number. Each turn counts the one that it takes off behind.
+fn digit_count(number: u64) -> usize
+    ensures counted { result ≡ places number }
+    ensures within { result ≤ 20 }
+{
+    let mut count = 1;
+    let mut rest = number / 10;
+    while rest > 0 {
+        rest /= 10;
+        count += 1;
+    }
+    count
+}
+
+// Writes the last `count` digits of a number to the start of `out`, the last one first.
+fn write_digits(number: u64, count: usize, out: &mut [u8])
+    requires { count ≤ length out.old }
+    ensures written { take count out.new ≡ last_digits count number }
+    ensures kept { drop count out.new ≡ drop count out.old }
+{
+    let mut at = count;
+    let mut rest = number;
+    while at > 0 {
+        at -= 1;
+        out[at] = b'0' + (rest % 10) as u8;
+        rest /= 10;
+    }
 }
 
 // Copies a text to the places of `out` from `at` on.

@@ -4,7 +4,7 @@ use Rattle.replay.proofs.take_item.Statement.{statement}
 use Rattle.replay.proofs.take_item.Tie as tie
 use mathlib.Core.Path.{ap, ◌∙◌}
 use lib.ListN.{take}
-use Rattle.io.proofs.Counting.{length-take_of_le}
+use Rattle.texts.proofs.Prefixes.{length-take_of_le}
 use Rattle.replay.specs.declared.script.Line.{Line}
 use Rattle.replay.specs.Runs.{taken}
 use Rattle.replay.specs.Turns.{taken_after}

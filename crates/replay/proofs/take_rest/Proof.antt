@@ -5,7 +5,7 @@ use Rattle.replay.proofs.take_rest.Tie as tie
 use mathlib.Core.Path.{ap, ◌∙◌}
 use native.Mathlib.Omega.{arith}
 use lib.ListN.{take}
-use Rattle.io.proofs.Counting.{length-take_of_le}
+use Rattle.texts.proofs.Prefixes.{length-take_of_le}
 use Rattle.replay.specs.declared.script.Line.{Line}
 use Rattle.replay.specs.Runs.{taken}
 use Rattle.replay.proofs.Words.{word_within}

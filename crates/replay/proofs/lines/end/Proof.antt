@@ -7,7 +7,7 @@ use mathlib.Core.List.{List, ◌++◌, append_assoc}
 use Prim.Native.Nat.{ℕ, ◌<◌}
 use native.Mathlib.Omega.{arith}
 use lib.ListN.{length, take}
-use Rattle.io.proofs.Counting.{prefix_len_of_le}
+use Rattle.texts.proofs.Prefixes.{prefix_len_of_le}
 use Rattle.conduct.specs.Session.{state_number}
 use Rattle.texts.specs.Fields.{space, line_end, field, decimal}
 use Rattle.message.specs.Words.{codes}

@@ -6,7 +6,7 @@ use mathlib.Core.Path.{◌≡◌, refl, ap, ◌∙◌}
 use Prim.Native.Nat.{ℕ, ◌≤◌, ◌-◌, ◌*◌}
 use native.Mathlib.Omega.{arith}
 use lib.ListN.{length, take}
-use Rattle.io.proofs.Counting.{prefix_len_of_le}
+use Rattle.texts.proofs.Prefixes.{prefix_len_of_le}
 use Rattle.session.specs.Rows.{list_of}
 use Rattle.session.proofs.Rows.{unmapped}
 use Rattle.replay.specs.Lines.{event_lines}

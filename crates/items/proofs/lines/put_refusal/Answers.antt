@@ -1,0 +1,11 @@
+-- `items::lines::put_refusal` meets its contract: its fields stand one behind the other. Assumes nothing.
+use mathlib.Core.List.{append_assoc}
+use native.Mathlib.Omega.{arith}
+use Rattle.texts.proofs.Prefixes.{prefix_len_of_le}
+use Rattle.items.proofs.lines.put_refusal.Goals as goal
+
+pub returns : goal.returns
+returns c = record {
+  prefix_len = prefix_len_of_le _ _ (omega (arith, c.put_number-next.ensures.ends, c.put_number.ensures.ends));
+  written = rw (c.put_number.ensures.written, c.put_number-next.ensures.written) (simp append_assoc);
+}
