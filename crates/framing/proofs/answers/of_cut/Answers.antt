@@ -1,11 +1,7 @@
 -- `framing::answers::of_cut` meets its contract: `ended` picks the case of `answered`, and the callees' contracts are what stands there.
 -- Assumes nothing.
-use native.Mathlib.Omega.{arith}
 use Rattle.framing.specs.Cutting.{answered}
 use Rattle.framing.proofs.answers.of_cut.Goals as goal
-
-pub completed-requires : goal.completed-requires
-completed-requires c = omega (arith, c.count-total.ensures, c.requires.end_behind_boundary c.if-cut.true)
 
 pub returns-then-cut : goal.returns-then-cut
 unfolding answered

@@ -3,14 +3,11 @@
 use Prim.Native.Nat.{◌-◌}
 use mathlib.Core.Path.{sym, ap, ◌∙◌}
 use native.Mathlib.Omega.{arith}
-use lib.ListN.{length, length-take}
+use lib.ListN.{length}
 use Rattle.framing.specs.Cutting.{cut_of}
 use Rattle.framing.proofs.Pieces.{seam_ended, seam_free, seam_passed}
 use Rattle.framing.proofs.cutting.cut_piece.Goals as goal
 use Rattle.framing.proofs.cutting.cut_piece.Goals.{then-held-ne0+else-cut, else-held-ne0}
-
-pub slice_bounds-scan-end : goal.slice_bounds-scan-end
-slice_bounds-scan-end c = simp length-take (omega arith)
 
 pub returns-then-cut : goal.returns-then-cut
 returns-then-cut c =

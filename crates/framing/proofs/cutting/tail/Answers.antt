@@ -1,14 +1,10 @@
 -- `framing::cutting::tail` meets its contract. The invariant of its loop: no more than `tried` first bytes of the boundary end the piece. Assumes nothing.
 use mathlib.Core.Path.{sym, ◌∙◌}
 use borrow.Author.Rules.{rules}
-use native.Mathlib.Omega.{arith}
 use lib.ListN.{length}
 use Rattle.framing.proofs.Borders.{above_next, above_found, above_none}
 use Rattle.framing.proofs.Pieces.{tail_stands}
 use Rattle.framing.proofs.cutting.tail.Goals as goal
-
-pub loop-tried-init : goal.loop-tried-init
-loop-tried-init c = (search rules, λ x above below. absurd (omega arith))
 
 pub returns-then-part_stands : goal.returns-then-part_stands
 returns-then-part_stands c =

@@ -5,7 +5,7 @@ use mathlib.Core.Path.{sym, ◌∙◌}
 use mathlib.Core.List.{[], ◌∷◌, ◌++◌}
 use borrow.Author.Rules.{rules}
 use lib.ListN.{length, take}
-use Rattle.framing.proofs.Borders.{above_first, above_next, above_found, above_none}
+use Rattle.framing.proofs.Borders.{above_first, above_found, above_none}
 use Rattle.framing.proofs.matching.step.Goals as goal
 
 pub loop-tried-init : goal.loop-tried-init
@@ -16,9 +16,6 @@ returns-then-ends c =
     let a = c.args in
     let at-loop = c.loop-tried in
     above_found (suc (length a.boundary.now)) a.boundary.now (take a.matched a.boundary.now ++ (a.byte ∷ [])) at-loop.tried at-loop.invariant.1 (search rules) (sym c.ends.ensures ∙ c.if-ends.true)
-
-pub loop-tried-preserved : goal.loop-tried-preserved
-loop-tried-preserved c = (search rules, above_next _ _ _ _ c.loop-tried.invariant.1 (sym c.ends.ensures ∙ c.if-ends.false))
 
 pub returns : goal.returns
 returns c =

