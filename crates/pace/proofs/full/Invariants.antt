@@ -1,6 +1,5 @@
 -- `pace::full` is safe and ends: each round opens a push, and there are 32. Assumes nothing.
 use Prim.Native.Nat.{◌-◌}
-use borrow.Author.Rules.{rules}
 use Rattle.pace.proofs.full.Given as goal
 
 abbrev pub invariant-loop-handle : goal.invariant-loop-handle

@@ -1,6 +1,5 @@
 -- `pace::oks` is safe and ends: each round is counted. Assumes nothing.
 use Prim.Native.Nat.{◌-◌}
-use borrow.Author.Rules.{rules}
 use Rattle.pace.proofs.oks.Given as goal
 
 abbrev pub invariant-loop-i : goal.invariant-loop-i
