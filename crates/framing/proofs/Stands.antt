@@ -79,11 +79,6 @@ module _ (b p : List ℕ) where
       go true l = before x low (ltb-true x j l)
       go false l = behind x (omega (arith, ltb-false x j l)) high
 
-  pub none_one : (i : ℕ) → stands_at b p i ≡ false → NoneFrom b p i (i + 1)
-  none_one i off x low high =
-      let here : x ≡ i = omega arith in
-      rw here off
-
   pub first_is : (i e r : ℕ) → First b p i e r → r ≡ first_from b p i e
   unfolding first_from
   first_is i e r first = go (ltb r e) refl

@@ -41,15 +41,6 @@ end_of_start input =
     least_same (λ k. eqb (get_or (take 17 input) k 0) 10) (λ k. eqb (get_or input k 0) 10) 17
     (λ j few. ap (λ (x : ℕ). eqb x 10) (get_or-take 17 input j 0 few))
 
--- a boundary that is not refused ends within the input
-pub end_inside : (end n : ℕ) → refused_end end ≡ false → (end < 17 → end < n) → end < n
-end_inside end n not-refused within = go (ltb end 1) (ltb 16 end) refl not-refused
-  where
-    go : (t u : Bool) → ltb 16 end ≡ u → (t || u) ≡ false → end < n
-    go true u e f = absurd (true_false refl f)
-    go false true e f = absurd (true_false refl f)
-    go false false e f = within (omega (arith, ltb-false 16 end e))
-
 -- a boundary that is not refused has 1 to 16 bytes
 pub accepted_end : (input : List ℕ) → refused_end (boundary_end input) ≡ false → (1 ≤ boundary_end input) × (boundary_end input ≤ 16)
 accepted_end input not-refused = go (ltb (boundary_end input) 1) refl (ltb 16 (boundary_end input)) refl not-refused

@@ -1,10 +1,9 @@
 -- Laws of runs of bytes that are compared one by one, and of a part of the message as such a run. Assumes nothing.
 use Prim.Native.Nat.{ℕ, zero, suc, ◌+◌, ◌-◌, ◌<◌, ◌≤◌, min}
 use mathlib.Core.Path.{◌≡◌, refl, sym, ◌∙◌, ap}
-use mathlib.Core.Logic.{◌⊎◌, ⊎_elim}
 use mathlib.Core.Bool.{true, false}
 use mathlib.Core.List.{List, [], ◌∷◌, ◌++◌}
-use native.Mathlib.Nat.{min-eq_left, min-eq_right, min-le_left}
+use native.Mathlib.Nat.{min-le_left}
 use native.Mathlib.Numerals.{add-one}
 use native.Mathlib.Omega.{arith}
 use lib.ListN.{length, get_or, take, drop, drop_of_length-le, length-take, length-drop}
@@ -94,9 +93,3 @@ module _ (s : List ℕ) where
   -- one byte more
   pub part_more : (b e : ℕ) → b ≤ e → e < length s → part s b (e + 1) ≡ part s b e ++ (get_or s e 0 ∷ [])
   part_more b e p h = part_split s b e (e + 1) p (omega arith) (omega arith) ∙ ap (λ (u : List ℕ). part s b e ++ u) (part_one e h)
-
--- what a local is after `if e < n { e } else { n }`, from the way that control came
-pub lesser : {T F : Type 0} {n e stop : ℕ} → (T × (stop ≡ e)) ⊎ (F × (stop ≡ n)) → (T → e < n) → (F → n ≤ e) → stop ≡ min e n
-lesser {n = n} {e = e} came taken left =
-    ⊎_elim (λ w. let h : e ≤ n = omega (arith, taken w.0) in w.1 ∙ sym (min-eq_left h))
-    (λ w. w.1 ∙ sym (min-eq_right (left w.0))) came

@@ -1,13 +1,13 @@
 -- LAWS on the loops that write a number in decimal: `Counted` is the state of the one that counts its digits, from the last one on, and
 -- `digits_step` is a turn of the one that writes them. Assumes nothing.
 use mathlib.Core.Path.{◌≡◌, refl, sym, ap, subst, ◌∙◌}
-use mathlib.Core.List.{List, [], ◌∷◌, ◌++◌, append-nil}
+use mathlib.Core.List.{List, [], ◌∷◌, ◌++◌}
 use Prim.Native.Nat.{ℕ, zero, suc, ◌+◌, ◌-◌, ◌*◌, ◌/◌, ◌%◌, ◌^◌, ◌≤◌, ◌<◌}
-use native.Mathlib.Nat.{lt_of_not-le, pow-zero, pow-suc, one-mul, one-le-pow, pow-le-pow_right, div-div-eq-div-mul, le-div_iff_mul-le, div-lt_iff_lt-mul, le_of_suc-le-suc, not-suc-le-zero}
+use native.Mathlib.Nat.{lt_of_not-le, pow-suc, one-le-pow, pow-le-pow_right, div-div-eq-div-mul, le-div_iff_mul-le, div-lt_iff_lt-mul, le_of_suc-le-suc, not-suc-le-zero}
 use native.Mathlib.Numerals.{add-one, sub-one}
 use native.Mathlib.Omega.{arith}
 use lib.ListN.{length, take, drop, set}
-use lib.Seq.{slice, slice_empty, length-take-le, take-set-lt, append_snoc}
+use lib.Seq.{slice, length-take-le, take-set-lt, append_snoc}
 use lib.Dec.{ltb}
 use borrow.Author.Tests.{lt-ltb, le-ltb}
 use Rattle.laws.specs.Search.{least}
@@ -20,14 +20,6 @@ pub record Counted (n count rest : ℕ) : Type 0 where
   pub some : 0 < count
   pub left : rest ≡ n / 10 ^ count
   pub needed : 1 < count → 10 ^ (count - 1) ≤ n
-
-pub counted_first : (n : ℕ) → Counted n 1 (n / 10)
-counted_first n =
-    record {
-      some = omega arith;
-      left = ap (λ (d : ℕ). n / d) (sym (pow-suc 10 0 ∙ ap (λ (p : ℕ). p * 10) (pow-zero 10) ∙ one-mul 10));
-      needed = λ more. absurd (omega arith);
-    }
 
 module _ (n count rest : ℕ) (c : Counted n count rest) where
   pub counted_next : 0 < rest → Counted n (count + 1) (rest / 10)
@@ -92,9 +84,6 @@ drop-set : (t : List ℕ) (j d : ℕ) → j < length t → drop j (set t j d) �
 drop-set [] j d h = absurd (not-suc-le-zero h)
 drop-set (x ∷ xs) zero d h = refl
 drop-set (x ∷ xs) (suc j) d h = drop-set xs j d (le_of_suc-le-suc h)
-
-pub digits_first : (k n : ℕ) (out : List ℕ) → last_digits k n ++ slice k k out ≡ last_digits k n
-digits_first k n out = ap (λ (l : List ℕ). last_digits k n ++ l) (slice_empty k out) ∙ append-nil (last_digits k n)
 
 -- the last of the digits that are still to write comes to the front of those that are written
 pub digits_step : (i k rest d : ℕ) (out : List ℕ) → 0 < i → i ≤ k → k ≤ length out → d ≡ 48 + rest % 10
