@@ -17,18 +17,19 @@ use Rattle.replay.specs.declared.script.Line.{Line}
 use Rattle.replay.specs.declared.script.Line.TheVariants as lines
 use Rattle.replay.specs.Script.{is_word, begins, behind, or_else, ticks_of, figure_behind, an_interval, some_resends, numbered_of, worded_of, line_of, bytes_of_word}
 
-module _ {A : Type 0} {x y : Number} {flag : ℕ} (is : x ≡ y) (flagged : flag ≡ number_flag x) (of : ℕ → A) (other : A) where
-  pub a_number : {named : ℕ} → flag ≡ 1 → named ≡ number_named x → of named ≡ or_else y of other
-  a_number one name = ap of name ∙ go x (sym flagged ∙ one) ∙ ap (λ (n : Number). or_else n of other) is
+-- a number that has a flag names its figure, and one that has none is nothing
+module _ {x y : Number} {flag : ℕ} (is : x ≡ y) (flagged : flag ≡ number_flag x) where
+  pub is_named : {named : ℕ} → flag ≡ 1 → named ≡ number_named x → y ≡ Names named
+  is_named one name = sym is ∙ go x (sym flagged ∙ one) ∙ ap Names (sym name)
     where
-      go : (n : Number) → number_flag n ≡ 1 → of (number_named n) ≡ or_else n of other
+      go : (n : Number) → number_flag n ≡ 1 → n ≡ Names (number_named n)
       go Nothing e = absurd (omega (arith, e))
       go (Names n) e = refl
 
-  pub no_number_lem : (flag ≡ 1 → ⊥) → or_else y of other ≡ other
-  no_number_lem not-one = sym (ap (λ (n : Number). or_else n of other) is) ∙ go x (λ e. not-one (flagged ∙ e))
+  pub is_nothing : (flag ≡ 1 → ⊥) → y ≡ Nothing
+  is_nothing not-one = sym is ∙ go x (λ e. not-one (flagged ∙ e))
     where
-      go : (n : Number) → (number_flag n ≡ 1 → ⊥) → or_else n of other ≡ other
+      go : (n : Number) → (number_flag n ≡ 1 → ⊥) → n ≡ Nothing
       go Nothing e = refl
       go (Names n) e = absurd (e refl)
 

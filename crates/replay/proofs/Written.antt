@@ -23,12 +23,12 @@ pub record Put (out : List ℕ) (at : ℕ) (after : List ℕ) (end : ℕ) (w : L
   pub kept : length after ≡ length out
 
 pub put_field : (out : List ℕ) (at : ℕ) (w : List ℕ) {after : List ℕ} {end : ℕ} → at + length w ≤ length out
-    → (end ≡ end_behind (length out) at w) × (after ≡ put_at out at w) → Put out at after end w
+    → record { ends : end ≡ end_behind (length out) at w; written : after ≡ put_at out at w } → Put out at after end w
 put_field out at w {after} {end} room said =
-    let ends : end ≡ at + length w = said.0 ∙ put_end out at w room in
-    let kept : length after ≡ length out = ap length said.1 ∙ put_length out at w in
+    let ends : end ≡ at + length w = said.ends ∙ put_end out at w room in
+    let kept : length after ≡ length out = ap length said.written ∙ put_length out at w in
     record {
-      written = rw (said.0, said.1) (put_front out at w room);
+      written = rw (said.ends, said.written) (put_front out at w room);
       ends = ends;
       within = omega arith;
       kept = kept;
@@ -45,14 +45,18 @@ put_more {out} {at = at} w v p q =
     }
 
 -- what is written from the start on
-pub put_whole : {out after : List ℕ} {end : ℕ} {w : List ℕ} → Put out 0 after end w → IsPrefixLen end after × (take end after ≡ w)
-put_whole {after = after} {end} p = (prefix_len_of_le end after p.within, p.written)
+pub put_whole : {out after : List ℕ} {end : ℕ} {w : List ℕ} → Put out 0 after end w
+    → record { prefix_len : IsPrefixLen end after; written : take end after ≡ w }
+put_whole {after = after} {end} p = record { prefix_len = prefix_len_of_le end after p.within; written = p.written }
 
 -- a name of at most 10 bytes
 pub put_name : {out after : List ℕ} {at end : ℕ} (name : List ℕ) {other : List ℕ} → Put out at after end (field name space)
-    → length name ≤ 10 → name ≡ other → (take end after ≡ take at out ++ field other space) × (end ≤ at + 11)
+    → length name ≤ 10 → name ≡ other → record { written : take end after ≡ take at out ++ field other space; ends : end ≤ at + 11 }
 put_name {out} {at = at} name p short is =
-    (p.written ∙ ap (λ (l : List ℕ). take at out ++ field l space) is, omega (arith, p.ends, length-append name (space ∷ [])))
+    record {
+      written = p.written ∙ ap (λ (l : List ℕ). take at out ++ field l space) is;
+      ends = omega (arith, p.ends, length-append name (space ∷ []));
+    }
 
 -- a number of 64 bits and the byte behind it
 pub number_short : (n behind : ℕ) → n < 18446744073709551616 → length (field (decimal n) behind) ≤ 21

@@ -1,7 +1,5 @@
 -- `replay::run_line` meets its contract: line by line (`Turns`). Assumes nothing.
-use borrow.Author.Rules.{rules}
-use Prim.Native.Nat.{◌-◌, ◌≤◌}
-use native.Mathlib.Omega.{arith}
+use Prim.Native.Nat.{◌-◌}
 use lib.ListN.{length, take, drop}
 use Rattle.message.specs.Class.{class_of}
 use Rattle.message.specs.Limits.{link_limits}
@@ -11,52 +9,47 @@ use Rattle.replay.specs.Runs.{ran}
 use Rattle.replay.proofs.Turns.{events_fit, called_run, heard_run}
 use Rattle.replay.proofs.run_line.Goals as goal
 
-inside : (c : tie.After-enum-told3) → 8 ≤ length c.before.before.before.before.args.bytes.now
-inside c = rw c.enum-told3.given.1 at c.before.before.before.before.requires
-
 pub run_call-requires : goal.run_call-requires
-run_call-requires c =
+run_call-requires g c =
     let call = c.in-Other.call in
     events_fit c.args.run.session call c.told.ensures
 
 pub slice_bounds-hear-count : goal.slice_bounds-hear-count
-slice_bounds-hear-count c = inside c
+slice_bounds-hear-count g c = rw c.in-Message.is at c.requires
 
 pub run_call-requires-in-Message : goal.run_call-requires-in-Message
-run_call-requires-in-Message c =
+run_call-requires-in-Message g c =
     let a = c.args in
     let bytes = a.bytes.now in
     events_fit a.run.session (call_of (message_of class_of link_limits (take (length bytes - 8) (drop 8 bytes)))) c.hear.ensures
 
 pub returns-in-Nothing : goal.returns-in-Nothing
 unfolding ran
-returns-in-Nothing c = rw c.in-Nothing.is
+returns-in-Nothing g c = rw c.in-Nothing.is
 
 pub returns-in-Set : goal.returns-in-Set
 unfolding ran
-returns-in-Set c = rw c.in-Set.is c.write_bad.ensures
+returns-in-Set g c = rw c.in-Set.is c.write_bad.ensures
 
 pub returns-in-Ticks : goal.returns-in-Ticks
 unfolding ran
-returns-in-Ticks c = rw c.in-Ticks.is c.run_ticks.ensures
+returns-in-Ticks g c = rw c.in-Ticks.is c.run_ticks.ensures
 
 pub returns-in-Other : goal.returns-in-Other
 unfolding ran
-returns-in-Other c =
-    let line = c.line-in-Other-1 in
-    let run = c.args.run in
-    rw line.given.1 (called_run run line.given.0.0 c.told.ensures c.run_call.ensures)
+returns-in-Other g c =
+    rw c.in-Other.is (called_run c.args.run c.in-Other.call c.told.ensures c.run_call.ensures)
 
 pub returns-in-Message : goal.returns-in-Message
 unfolding ran
-returns-in-Message c =
+returns-in-Message g c =
     let a = c.args in
     rw c.in-Message.is (heard_run a.run a.bytes.now c.hear.ensures c.run_call-in-Message.ensures)
 
 pub returns-in-Last : goal.returns-in-Last
 unfolding ran
-returns-in-Last c = rw c.in-Last.is c.renumbered.ensures
+returns-in-Last g c = rw c.in-Last.is c.renumbered.ensures
 
 pub returns-in-Bad : goal.returns-in-Bad
 unfolding ran
-returns-in-Bad c = rw c.in-Bad.is c.write_bad-in-Bad.ensures
+returns-in-Bad g c = rw c.in-Bad.is c.write_bad-in-Bad.ensures

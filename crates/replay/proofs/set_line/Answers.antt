@@ -1,5 +1,4 @@
 -- `replay::set_line` meets its contract: line by line. Assumes nothing.
-use borrow.Author.Rules.{rules}
 use Rattle.replay.specs.Runs.{set}
 use Rattle.replay.proofs.set_line.Goals as goal
 

@@ -1,5 +1,4 @@
 -- `replay::take_rest` meets its contract: by the count of the bytes that wait (`Turns`). Assumes nothing.
-use borrow.Author.Rules.{rules}
 use mathlib.Core.Path.{ap, ◌∙◌}
 use native.Mathlib.Omega.{arith}
 use lib.ListN.{take}
@@ -11,25 +10,25 @@ use Rattle.replay.proofs.Turns.{nothing_waits, too_much_waits, a_line_waits}
 use Rattle.replay.proofs.take_rest.Goals as goal
 
 pub returns-then-held-eq0 : goal.returns-then-held-eq0
-returns-then-held-eq0 c =
+returns-then-held-eq0 g c =
     let a = c.args in
     nothing_waits a.held.run a.store.now a.held.gathered c.if-held-eq0.true
 
 pub returns-then-held-gt-LINK_LIMIT : goal.returns-then-held-gt-LINK_LIMIT
-returns-then-held-gt-LINK_LIMIT c =
+returns-then-held-gt-LINK_LIMIT g c =
     let a = c.args in
     c.take_line.ensures ∙ too_much_waits a.held.run a.store.now a.held.gathered c.requires c.if-held-gt-LINK_LIMIT.true
 
 pub slice_bounds-bytes-end : goal.slice_bounds-bytes-end
-slice_bounds-bytes-end c = length-take_of_le _ _ (omega arith)
+slice_bounds-bytes-end g c = length-take_of_le _ _ (omega arith)
 
 pub take_line-requires-2 : goal.take_line-requires-2
-take_line-requires-2 c =
+take_line-requires-2 g c =
     let a = c.args in
     rw c.line_of.ensures (word_within (take a.held.gathered a.store.now))
 
 pub returns : goal.returns
-returns c =
+returns g c =
     let a = c.args in
     let bytes = take a.held.gathered a.store.now in
     c.take_line-2.ensures ∙ ap (λ (l : Line). (taken a.held.run l bytes).run) c.line_of.ensures

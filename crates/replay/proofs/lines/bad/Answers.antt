@@ -1,5 +1,4 @@
 -- `replay::lines::bad` meets its contract: its three fields stand one behind the other (`Written`). Assumes nothing.
-use borrow.Author.Rules.{rules}
 use native.Mathlib.Omega.{arith}
 use Rattle.texts.specs.Fields.{space, line_end, field, decimal}
 use Rattle.message.specs.Words.{codes}
@@ -17,6 +16,6 @@ returns c =
     let third = c.put in
     let short = number_short a.line space (omega (arith, c.ranges.line)) in
     let p = put_field a.out.now 0 (field (codes "line") space) (omega arith) first.ensures in
-    let q = put_field first.new.0 first.result (field (decimal a.line) space) (omega arith) second.ensures in
-    let r = put_field second.new.0 second.result (field (codes "bad") line_end) (omega arith) third.ensures in
+    let q = put_field first.new.out first.result (field (decimal a.line) space) (omega arith) second.ensures in
+    let r = put_field second.new.out second.result (field (codes "bad") line_end) (omega arith) third.ensures in
     put_whole (put_more _ _ p (put_more _ _ q r))

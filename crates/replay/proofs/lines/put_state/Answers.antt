@@ -1,5 +1,4 @@
 -- `replay::lines::put_state` meets its contract: state by state (`Written`). Assumes nothing.
-use borrow.Author.Rules.{rules}
 use mathlib.Core.Path.{sym, ap}
 use native.Mathlib.Omega.{arith}
 use borrow.Author.Tests.{ne_eqb}

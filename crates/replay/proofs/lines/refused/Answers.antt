@@ -1,5 +1,4 @@
 -- `replay::lines::refused` meets its contract: its three fields stand one behind the other (`Written`). Assumes nothing.
-use borrow.Author.Rules.{rules}
 use native.Mathlib.Omega.{arith}
 use Rattle.texts.specs.Fields.{space, line_end, field, decimal}
 use Rattle.message.specs.Words.{codes}
@@ -18,6 +17,6 @@ returns c =
     let call = number_short a.call space (omega (arith, c.ranges.call)) in
     let refusal = number_short a.refusal line_end (omega (arith, c.ranges.refusal)) in
     let p = put_field a.out.now 0 (field (decimal a.call) space) (omega arith) first.ensures in
-    let q = put_field first.new.0 first.result (field (codes "refused") space) (omega arith) second.ensures in
-    let r = put_field second.new.0 second.result (field (decimal a.refusal) line_end) (omega arith) third.ensures in
+    let q = put_field first.new.out first.result (field (codes "refused") space) (omega arith) second.ensures in
+    let r = put_field second.new.out second.result (field (decimal a.refusal) line_end) (omega arith) third.ensures in
     put_whole (put_more _ _ p (put_more _ _ q r))

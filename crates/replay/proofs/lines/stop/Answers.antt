@@ -1,5 +1,4 @@
 -- `replay::lines::stop` meets its contract: its two fields stand one behind the other (`Written`). Assumes nothing.
-use borrow.Author.Rules.{rules}
 use native.Mathlib.Omega.{arith}
 use Rattle.texts.specs.Fields.{space, line_end, field, decimal}
 use Rattle.message.specs.Words.{codes}
@@ -16,5 +15,5 @@ returns c =
     let second = c.put_number in
     let short = number_short a.refusal line_end (omega (arith, c.ranges.refusal)) in
     let p = put_field a.out.now 0 (field (codes "stop") space) (omega arith) first.ensures in
-    let q = put_field first.new.0 first.result (field (decimal a.refusal) line_end) (omega arith) second.ensures in
+    let q = put_field first.new.out first.result (field (decimal a.refusal) line_end) (omega arith) second.ensures in
     put_whole (put_more _ _ p q)

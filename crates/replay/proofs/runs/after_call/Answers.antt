@@ -1,5 +1,4 @@
 -- `replay::runs::after_call` meets its contract: the number of the next call follows. Assumes nothing.
-use borrow.Author.Rules.{rules}
 use Rattle.replay.specs.Runs.{after_call}
 use Rattle.replay.proofs.runs.after_call.Goals as goal
 

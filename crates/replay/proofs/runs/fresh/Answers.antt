@@ -1,5 +1,4 @@
 -- `replay::runs::fresh` meets its contract: the session is the one that the making answers. Assumes nothing.
-use borrow.Author.Rules.{rules}
 use Rattle.replay.specs.Runs.{fresh_run}
 use Rattle.replay.proofs.runs.fresh.Goals as goal
 

@@ -1,5 +1,4 @@
 -- `replay::runs::made` meets its contract: by the refusal of the making. Assumes nothing.
-use borrow.Author.Rules.{rules}
 use mathlib.Core.Path.{◌≡◌}
 use borrow.Author.Tests.{eq-eqb, ne_eqb}
 use Rattle.session.specs.declared.Made.{Made}

@@ -1,5 +1,4 @@
 -- `replay::runs::next` meets its contract: case by case. Assumes nothing.
-use borrow.Author.Rules.{rules}
 use borrow.Author.Tests.{lt-ltb, le-ltb}
 use Rattle.replay.proofs.runs.next.Goals as goal
 

@@ -1,5 +1,4 @@
 -- `replay::runs::next_line` meets its contract: the number of the next line follows. Assumes nothing.
-use borrow.Author.Rules.{rules}
 use Rattle.replay.specs.Runs.{next_line}
 use Rattle.replay.proofs.runs.next_line.Goals as goal
 

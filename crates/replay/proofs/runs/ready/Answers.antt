@@ -1,5 +1,4 @@
 -- `replay::runs::ready` meets its contract: phase by phase. Assumes nothing.
-use borrow.Author.Rules.{rules}
 use mathlib.Core.Path.{sym, ◌∙◌}
 use Rattle.replay.specs.Runs.{made_run, ready_for}
 use Rattle.replay.proofs.runs.ready.Goals as goal

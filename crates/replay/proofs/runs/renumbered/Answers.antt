@@ -1,5 +1,4 @@
 -- `replay::runs::renumbered` meets its contract: the session is the same but for its last number. Assumes nothing.
-use borrow.Author.Rules.{rules}
 use Rattle.replay.specs.Runs.{renumbered}
 use Rattle.replay.proofs.runs.renumbered.Goals as goal
 

@@ -1,5 +1,4 @@
 -- `replay::runs::settled` meets its contract: field by field, and the site with its new figure. Assumes nothing.
-use borrow.Author.Rules.{rules}
 use Rattle.replay.specs.Runs.{settled}
 use Rattle.replay.proofs.runs.settled.Goals as goal
 

@@ -1,5 +1,4 @@
 -- `replay::runs::site_with` meets its contract: setting by setting. Assumes nothing.
-use borrow.Author.Rules.{rules}
 use Rattle.replay.proofs.runs.site_with.Goals as goal
 
 pub returns-in-Interval : goal.returns-in-Interval

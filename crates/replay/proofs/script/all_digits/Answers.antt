@@ -1,10 +1,7 @@
 -- `replay::script::all_digits` meets its contract: the digits that are left all pass just if all from the place on do (`Digits`).
 -- Assumes nothing.
-use Prim.Native.Nat.{◌≤◌, ◌-◌}
-use mathlib.Core.Path.{◌≡◌, refl, sym, ◌∙◌}
+use mathlib.Core.Path.{refl, sym, ◌∙◌}
 use native.Mathlib.Omega.{arith}
-use lib.ListN.{length, drop}
-use Rattle.conduct.specs.Lists.{all}
 use Rattle.conduct.proofs.Loops.{all_end}
 use Rattle.replay.specs.Script.{is_digit}
 use Rattle.replay.proofs.Digits.{below_digits, above_digits, next_digit}
@@ -13,27 +10,15 @@ use Rattle.replay.proofs.script.all_digits.Goals as goal
 pub loop-i-init : goal.loop-i-init
 loop-i-init c = (omega arith, refl)
 
-pub bounds-line-i : goal.bounds-line-i
-bounds-line-i c = omega arith
-
 pub returns-then-line-i-lt48 : goal.returns-then-line-i-lt48
 returns-then-line-i-lt48 c =
     let l = c.loop-i in
     below_digits c.args.line.now l.i (omega arith) c.if-line-i-lt48.true ∙ l.invariant.1
 
-pub bounds-line-i-in-loop-i : goal.bounds-line-i-in-loop-i
-bounds-line-i-in-loop-i c = omega arith
-
 pub returns-then-line-i-gt57 : goal.returns-then-line-i-gt57
 returns-then-line-i-gt57 c =
     let l = c.loop-i in
     above_digits c.args.line.now l.i (omega arith) c.if-line-i-gt57.true ∙ l.invariant.1
-
-pub overflow_add-i : goal.overflow_add-i
-overflow_add-i c = omega arith
-
-pub loop-i-smaller : goal.loop-i-smaller
-loop-i-smaller c = omega arith
 
 pub loop-i-preserved : goal.loop-i-preserved
 loop-i-preserved c =

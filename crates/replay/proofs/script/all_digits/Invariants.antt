@@ -1,13 +1,10 @@
 -- `replay::script::all_digits` meets its contract: the digits that are left all pass just if all from the place on do (`Digits`).
 -- Assumes nothing.
 use Prim.Native.Nat.{◌≤◌, ◌-◌}
-use mathlib.Core.Path.{◌≡◌, refl, sym, ◌∙◌}
-use native.Mathlib.Omega.{arith}
+use mathlib.Core.Path.{◌≡◌}
 use lib.ListN.{length, drop}
 use Rattle.conduct.specs.Lists.{all}
-use Rattle.conduct.proofs.Loops.{all_end}
 use Rattle.replay.specs.Script.{is_digit}
-use Rattle.replay.proofs.Digits.{below_digits, above_digits, next_digit}
 use Rattle.replay.proofs.script.all_digits.Given as goal
 
 abbrev pub invariant-loop-i : goal.invariant-loop-i

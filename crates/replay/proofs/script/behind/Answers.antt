@@ -1,5 +1,4 @@
 -- `replay::script::behind` meets its contract: case by case. Assumes nothing.
-use borrow.Author.Rules.{rules}
 use mathlib.Core.Path.{sym, ◌∙◌}
 use Rattle.replay.proofs.script.behind.Goals as goal
 

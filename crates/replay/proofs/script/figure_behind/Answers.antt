@@ -1,17 +1,13 @@
 -- `replay::script::figure_behind` meets its contract: case by case. Assumes nothing.
-use borrow.Author.Rules.{rules}
 use mathlib.Core.Path.{sym, ◌∙◌}
-use borrow.Author.Tests.{not-true, not-false}
 use Rattle.replay.proofs.Words.{begins_long}
 use Rattle.replay.proofs.script.figure_behind.Goals as goal
 
 pub returns-then-not-begins : goal.returns-then-not-begins
-returns-then-not-begins c = rw (sym c.begins.ensures ∙ not-true _ c.if-not-begins.true-raw)
+returns-then-not-begins c = rw (sym c.begins.ensures ∙ c.if-not-begins.true)
 
 pub figure-requires : goal.figure-requires
-figure-requires c =
-    let a = c.args in
-    begins_long a.word.now a.line.now (sym c.begins.ensures ∙ not-false _ c.if-not-begins.false-raw)
+figure-requires c = begins_long c.args.word.now c.args.line.now (sym c.begins.ensures ∙ c.if-not-begins.false)
 
 pub returns : goal.returns
-returns c = rw (sym c.begins.ensures ∙ not-false _ c.if-not-begins.false-raw) c.figure.ensures
+returns c = rw (sym c.begins.ensures ∙ c.if-not-begins.false) c.figure.ensures

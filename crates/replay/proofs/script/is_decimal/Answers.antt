@@ -1,5 +1,4 @@
 -- `replay::script::is_decimal` meets its contract: by the first byte (`Digits`). Assumes nothing.
-use borrow.Author.Rules.{rules}
 use mathlib.Core.Path.{◌∙◌}
 use Rattle.replay.proofs.Digits.{no_digits, zero_first, no_zero_first}
 use Rattle.replay.proofs.script.is_decimal.Goals as goal

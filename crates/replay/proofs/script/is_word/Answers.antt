@@ -1,5 +1,4 @@
 -- `replay::script::is_word` meets its contract: case by case. Assumes nothing.
-use borrow.Author.Rules.{rules}
 use borrow.Author.Tests.{eq-eqb, ne_eqb}
 use Rattle.replay.proofs.script.is_word.Goals as goal
 
