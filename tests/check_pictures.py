@@ -3,7 +3,7 @@
 
     python3 tests/check_pictures.py PROGRAM [WORD ..]
 
-PROGRAM and the words after it are the command that runs replay, say `tools/x86 run target/bin/replay`. The pictures are made again and compared. What
+PROGRAM and the words after it are the command that runs replay, say `tools/x86 run crates/replay/out/replay`. The pictures are made again and compared. What
 they show is compared with crates.txt, with the names in the sources, and with what replay prints: each move of the session is gone by its scripts, and
 calls of every sort are tried in every state, so that no move is left out. And that they can be read: no text over another, no line through a text or a box.
 The last line is 'N passed, M failed'; the exit status is 0 only if nothing failed.
