@@ -96,7 +96,7 @@ def faults_of_functions(picture):
 
 def faults_of_names():
     codes = re.findall(r"^(\w+) = (\d+)$", read(os.path.join(TOP, "crates", "conduct", "specs", "Codes.antt")), re.MULTILINE)
-    due = {int(number): name.lower() for name, number in codes}
+    due = {int(number): name.replace("_", "").lower() for name, number in codes}
     drawn = {number: name.replace(" ", "").lower() for number, name in session_moves.NAMES.items()}
     yield "session.svg", [] if drawn == due else ["the names of events are not those of Codes.antt"]
     states = re.search(r"pub enum State \{(.*?)\n\}", read(os.path.join(TOP, "crates", "conduct", "src", "lib.rt")), re.DOTALL).group(1)
