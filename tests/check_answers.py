@@ -3,8 +3,8 @@
 
 For each public function of a library the crate's proofs/OneAnswer.antt has a law `name_once`, or `type_name_once` of a method, which repeats the
 equations of the function's `ensures` twice, of r and of r', and ends in r ≡ r'; and no law is left over. The `result` of a contract is r in the law, or
-a where a parameter is called r, and what a function is lent is a list there, so `s.now` and `s.old` of a contract are `s`. What it leaves of something lent, `s.new`, is `left` in the
-law, or `sLeft` where several things are lent, and the law then ends in (r ≡ r') × (left ≡ left').
+a where a parameter is called r, and what a function is lent is a list there, so `s.now` and `s.old` of a contract are `s`, as is `s.entry`. What it leaves
+of something lent, `s.new`, is `left` in the law, or `sLeft` where several things are lent, and the law then ends in (r ≡ r') × (left ≡ left').
 The last line is 'N passed, M failed'; the exit status is 0 only if nothing failed.
 """
 import os
@@ -33,7 +33,8 @@ def result_of(function):
 
 def equation_of(clause, function):
     left = "left" if len(function.lent) < 2 else r"\1Left"
-    clause = re.sub(r"(?<![\w.])(\w+)\.(?:now|old)\b", r"\1", RESULT.sub(result_of(function), clause))
+    clause = RESULT.sub(result_of(function), clause).replace(".entry", "")
+    clause = re.sub(r"(?<![\w.])(\w+)\.(?:now|old)\b", r"\1", clause)
     clause = re.sub(r"(?<![\w.])(\w+)\.new\b", left, clause)
     return re.sub(r"(?<![\w·'.])[\w·']+", lambda word: function.imports.get(word.group(0), (0, 0, word.group(0)))[2], clause)
 
