@@ -120,7 +120,8 @@ def logs_of(edits):
         return [("", "the crates are not proved as they stand")] * len(edits)
     git = os.path.join(TOP, ".git")
     rooms = os.path.join(git, "rooms") if os.path.isdir(git) else tempfile.mkdtemp()
-    of_thread, begun = threading.local(), iter(range(len(edits) + 1))
+    shutil.rmtree(rooms, ignore_errors=True)  # what a run that was killed left
+    of_thread, begun = threading.local(), iter(range(len(edits)))
 
     def one(edit):
         if not hasattr(of_thread, "room"):
