@@ -1,10 +1,10 @@
 #!/usr/bin/env python3
-"""beside.py [cutting | reading] BEFORE AFTER: times two archives of `rt staticlib line`, their ali_gather, their ali_read or, with no word, both.
+"""beside.py [cutting | reading] BEFORE AFTER: times two archives of crates/line, their ali_gather, their ali_read or, with no word, both.
 
 Both archives are in one program, bench/gather.c or bench/read.cc, where they and some peers take turns: a machine is not as fast in one hour as in
 the next. There are four such programs, with the code of both archives at another place in each: where a linker happens to put a short loop can make it
 a quarter faster or slower. A cell has the mean of the four medians, and the lowest and the highest of them, in MB/s; a ratio is mean to mean, above 1
-where AFTER is faster. Each of the two may also be an object of bench/native_object.py.
+where AFTER is faster.
 """
 import os
 import shlex

@@ -1,5 +1,5 @@
 #!/usr/bin/env python3
-"""session.py: the time of one call of the session with 32 pushes open, by the program `pace` (target/bin/pace).
+"""session.py: the time of one call of the session with 32 pushes open, by the program `pace`.
 
 Each figure is the time of a run of many rounds less that of a run of none, by the rounds. A table with the best and the
 median of several runs, in nanoseconds a call.
@@ -10,7 +10,7 @@ import statistics
 import subprocess
 
 TOP = os.path.dirname(os.path.dirname(os.path.abspath(__file__)))
-COMMAND = [os.path.join(TOP, "tools", "x86"), "run", os.path.join(TOP, "target", "bin", "pace")]
+COMMAND = [os.path.join(TOP, "tools", "x86"), "run", os.path.join(TOP, "crates", "pace", "out", "pace")]
 ROUNDS = 2000000
 RUNS = 7
 OPEN_AFTER = {"tick": b"32", "ok": b"16"}  # the rounds end where a stretch of 16 does

@@ -1,4 +1,4 @@
-/* The line side of the ALI link box: what `rt staticlib line` puts into libline.a.
+/* The line side of the ALI link box: what `rt lib` in crates/line puts into libline.a.
  *
  * Every function here answers every call whose pointers are sound; the caller tests nothing beforehand. What no
  * contract can test, and the caller therefore owes at each call:
@@ -8,8 +8,8 @@
  * Nothing is kept after a call returns, and nothing is allocated.
  *
  * To build a program over it, at the top of the repository:
- *   rt staticlib line
- *   cc -std=c11 -Iinclude prog.c target/staticlib/libline.a
+ *   (cd crates/line && rt lib)
+ *   cc -std=c11 -Iinclude prog.c crates/line/out/libline.a
  */
 #ifndef ALI_LINK_H
 #define ALI_LINK_H

@@ -1,20 +1,20 @@
 #!/usr/bin/env python3
 """Checks that no public function is without its law that its contract has one answer.
 
-For each public function of a library the crate's proofs/OneAnswer.antt has a law `name-once`, or `type-name-once` of a method, which repeats the
-equations of the function's `ensures` twice, of r and of r′, and ends in r ≡ r′; and no law is left over. What a function is lent is a list there,
-so `now (s .entry)` of a contract is `s` in the law. What it leaves of something lent, `now (s .exit)`, is `left` there, or `sLeft` where several
-things are lent, and the law then ends in (r ≡ r′) × (left ≡ left′).
+For each public function of a library the crate's proofs/OneAnswer.antt has a law `name_once`, or `type_name_once` of a method, which repeats the
+equations of the function's `ensures` twice, of r and of r', and ends in r ≡ r'; and no law is left over. The `result` of a contract is r in the law, or
+a where a parameter is called r, and what a function is lent is a list there, so `s.now` and `s.old` of a contract are `s`, as is `s.entry`. What it leaves
+of something lent, `s.new`, is `left` in the law, or `sLeft` where several things are lent, and the law then ends in (r ≡ r') × (left ≡ left').
 The last line is 'N passed, M failed'; the exit status is 0 only if nothing failed.
 """
 import os
 import re
 import sys
 
-from contracts import flat, libraries, public_functions
+from contracts import RESULT, flat, libraries, public_functions
 from reporting import TOP, read, report
 
-LAW = re.compile(r"^ *pub ([\w-]+-once) :(.*?)^ *\1\b", re.MULTILINE | re.DOTALL)
+LAW = re.compile(r"^ *pub (\w+_once) :(.*?)^ *\1\b", re.MULTILINE | re.DOTALL)
 
 
 def laws_of(crate):
@@ -23,23 +23,28 @@ def laws_of(crate):
 
 
 def name_of_law(function, laws):
-    name = function.name.replace("_", "-") + "-once"
-    return function.owner.lower() + "-" + name if function.owner and name not in laws else name
+    name = function.name + "_once"
+    return function.owner.lower() + "_" + name if function.owner and name not in laws else name
+
+
+def result_of(function):
+    return "a" if re.search(r"[(\s]r: ", function.contract) else "r"
 
 
 def equation_of(clause, function):
     left = "left" if len(function.lent) < 2 else r"\1Left"
-    clause = re.sub(r"\(now \((\w+) \.entry\)\)", r"\1", clause).replace(" .entry", "")
-    clause = re.sub(r"\(now \((\w+) \.exit\)\)|now \((\w+) \.exit\)", lambda m: left.replace(r"\1", m.group(1) or m.group(2)), clause)
-    return re.sub(r"[\w·]+", lambda word: function.imports.get(word.group(0), (0, 0, word.group(0)))[2], clause)
+    clause = RESULT.sub(result_of(function), clause).replace(".entry", "")
+    clause = re.sub(r"(?<![\w.])(\w+)\.(?:now|old)\b", r"\1", clause)
+    clause = re.sub(r"(?<![\w.])(\w+)\.new\b", left, clause)
+    return re.sub(r"(?<![\w·'.])[\w·']+", lambda word: function.imports.get(word.group(0), (0, 0, word.group(0)))[2], clause)
 
 
 def due_of(function):
-    equations = " → ".join(equation_of(clause, function) for _, clause in function.equations)
-    results = [result for result, _ in function.equations if result != "_"][:1]
+    equations = " → ".join(equation_of(clause, function) for clause in function.equations)
+    results = [result_of(function)] if any(map(RESULT.search, function.equations)) else []
     results += list(dict.fromkeys(re.findall(r"\bleft\b|\b\w+Left\b", equations)))
-    other = re.sub(r"(?<![\w.·-])(%s)(?![\w′])" % "|".join(results), r"\1′", equations)
-    same = ["%s ≡ %s′" % (result, result) for result in results]
+    other = re.sub(r"(?<![\w.·'])(%s)(?![\w'])" % "|".join(results), r"\1'", equations)
+    same = ["%s ≡ %s'" % (result, result) for result in results]
     same = same[0] if len(same) == 1 else " × ".join("(%s)" % equation for equation in same)
     return "→ %s → %s → %s" % (equations, other, same)
 

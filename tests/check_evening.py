@@ -3,7 +3,7 @@
 
     python3 tests/check_evening.py [--seed S]
 
-It makes the files again; runs `items` and `replay` of target/bin on them, from a file, byte by byte and in random pieces, and the independent program;
+It makes the files again; runs the programs `items` and `replay` on them, from a file, byte by byte and in random pieces, and the independent program;
 sees that the script hands in exactly what the stream holds, item by item; and reads docs/AN-EVENING.md, whose tables must quote every line of both
 outputs, in order, with the right times, and whose counts must be those of the outputs.
 The last line is 'N passed, M failed'; the exit status is 0 only if nothing failed.
@@ -82,7 +82,7 @@ def faults_of_run(run, expected):
 
 
 def faults_of_program(name, model, given, expected, rng):
-    command = [os.path.join(TOP, "tools", "x86"), "run", os.path.join(TOP, "target", "bin", name)]
+    command = [os.path.join(TOP, "tools", "x86"), "run", os.path.join(TOP, "crates", name, "out", name)]
     data, due = sample(given), sample(expected)
     yield "independent program on %s" % given, difference(model(data), due)
     yield "%s < samples/%s" % (name, given), faults_of_run(output_of_file(command, data), due)

@@ -25,6 +25,8 @@ LONGER = {"docs/EXAMPLES.md": 600}
 FOLDERS = ("crates", "tests", "bench", "host", "tools", "include", "samples", "docs", ".ci")
 WRITTEN = (".rt", ".antt", ".py", ".c", ".cc", ".h", ".md", ".sh", "/run", "/box", "/x86", "/crates.txt")
 HELD_TOGETHER = ("tests/*", "tests/c/*", "tests/independent/*", "tests/vectors/*", "samples/*", "bench/*", "host/*", "tools/*")
+MADE = re.compile(r"crates/\w+/out/")
+OF_FUNCTION = re.compile(r".*/proofs/(?:.+/)?\+?(\w+)/(?:Answers|Invariants|Proof)\.antt$")
 FUNCTION_OF_CODE = re.compile(r"( *)(?:pub(?:\(crate\))? )?(?:extern \"C\" )?fn (\w+)")
 FUNCTION_OF_C = re.compile(r"\w[^;={]*\b(\w+)\(")
 
@@ -34,9 +36,9 @@ def label(path):
 
 
 def written():
-    """The texts that are written by hand. Vectors and samples are made by programs."""
+    """The texts that are written by hand. Vectors and samples are made by programs, and what stands in a crate's out/ by rt."""
     found = [path for folder in FOLDERS for path in files(folder, "**", "*")] + files("*")
-    return sorted({path for path in found if os.path.isfile(path) and path.endswith(WRITTEN)})
+    return sorted({path for path in found if os.path.isfile(path) and path.endswith(WRITTEN) and not MADE.match(label(path))})
 
 
 def functions_of_code(text):
@@ -88,11 +90,11 @@ def faults_of_place(path):
     """A proof is of a function of its crate, and any other file of specs and proofs is declared in the Lib.antt beside it."""
     folder, file = os.path.split(path)
     name = os.path.splitext(file)[0]
-    if file == "Proof.antt":
-        function = os.path.basename(folder).lstrip("+")
+    proof = OF_FUNCTION.match(path)
+    if proof:
         crate = re.match(r".*/crates/\w+", path).group(0)
-        if not any(re.search(r"\bfn %s\b" % function, read(source)) for source in files(crate, "src", "**", "*.rt")):
-            yield "there is no function " + function
+        if not any(re.search(r"\bfn %s\b" % proof.group(1), read(source)) for source in files(crate, "src", "**", "*.rt")):
+            yield "there is no function " + proof.group(1)
     elif file != "Lib.antt" and not re.search(r"^(?:pub )?mod %s$" % name, read(os.path.join(folder, "Lib.antt")), re.MULTILINE):
         yield "its Lib.antt does not declare it"
 

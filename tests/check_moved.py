@@ -38,9 +38,9 @@ module _ (n : ℕ) where
   abbrev pub inner : ℕ
   inner = 3
 
-infixl 10 _⊕_
-abbrev pub _⊕_ : ℕ → ℕ → ℕ
-_⊕_ n m = n
+infixl 10 ◌⊕◌
+abbrev pub ◌⊕◌ : ℕ → ℕ → ℕ
+◌⊕◌ n m = n
 """,
     "crates/low/specs/Sure.antt": "-- Promise: it holds. (proofs/Sure)\n\nabbrev pub Sure : Type 0\nSure = (n : ℕ) → turned n ≡ n\n",
     "crates/low/src/lib.rt": """// Code.
@@ -62,7 +62,7 @@ fn idle() {}
 fn zero() -> u32 { 0 }
 
 pub fn go(n: u32) -> u32
-    ensures { λ r. ⌜ r ≡ turned n ⌝ }
+    ensures { result ≡ turned n }
 {
     help(n)
 }
@@ -73,10 +73,10 @@ fn help(n: u32) -> u32 {
 }
 """,
     "crates/low/src/out.rt": """// What C meets.
-use crate::Pair;
+use crate::{Least, Pair};
 use crate::standing; // where it stands
 
-#[no_mangle]
+#[unsafe(no_mangle)]
 // Whole.
 pub extern "C" fn out(pair: &Pair) -> u32 {
     standing::of(pair)
@@ -91,8 +91,8 @@ impl Plain {
     }
 }
 """,
-    "crates/low/proofs/Sure.antt": "use Rattle·low·specs.specs.Sure.{Sure}\n\npub sure : Sure\nsure n = refl\n",
-    "crates/low/proofs/go/Proof.antt": "pub go-spec : Spec\ngo-spec = search needs\n",
+    "crates/low/proofs/Sure.antt": "use Rattle.low.specs.Sure.{Sure}\n\npub sure : Sure\nsure n = refl\n",
+    "crates/low/proofs/go/Answers.antt": "use Rattle.low.proofs.go.Goals as goal\n\npub returns : goal.returns\nreturns c = search rules\n",
     "crates/low/must-fail/wrong.edit": "edit: wrong_turn\n# Wrong.\nfile: src/lib.rt\nold: help(n)\nnew: n + 1\n",
     "crates/high/specs/Lib.antt": "pub mod Top\n",
     "crates/high/specs/Top.antt": "-- The top. Assumes nothing.\nabbrev pub top : ℕ\ntop = 9\n",
@@ -100,7 +100,7 @@ impl Plain {
 }
 WORDS, SURE, CODE = "crates/low/specs/Words.antt", "crates/low/specs/Sure.antt", "crates/low/src/lib.rt"
 TOP_WORDS, EDITS, OUT = "crates/high/specs/Top.antt", "crates/low/must-fail/wrong.edit", "crates/low/src/out.rt"
-PROOF, PROOF_OF_GO = "crates/low/proofs/Sure.antt", "crates/low/proofs/go/Proof.antt"
+PROOF, PROOF_OF_GO = "crates/low/proofs/Sure.antt", "crates/low/proofs/go/Answers.antt"
 TURNED = "abbrev pub turned : ℕ → ℕ\nturned n = n\n"
 DASHED = 'unfoldable pub dashed : List ℕ\ndashed = codes "a -- b"\n'
 
@@ -109,18 +109,18 @@ CASES = [
     ("nothing", [], []),
     ("comments, white space, imports", [
         (WORDS, "-- turned once", "-- turned\n-- again"), (WORDS, "turned n = n", "turned n =\n    n -- itself"), (WORDS, "{eqb}", "{leb}"),
-        (CODE, "// Helps.", "// Does."), (CODE, "    help(n)", "    // so\n    help(n)"), (PROOF, "·specs.specs", ".specs"),
+        (CODE, "// Helps.", "// Does."), (CODE, "    help(n)", "    // so\n    help(n)"), (PROOF, "low.specs", "low.proofs"),
         (PROOF, "\n\npub", "\n-- shown\npub"), (EDITS, "# Wrong.", "# Very wrong.")], []),
     ("a definition", [(WORDS, "turned n = n", "turned n = suc n")], ["- definitions, 1 changed: in specs/Words.antt `turned`"]),
     ("a quoted text, behind dashes", [(WORDS, "-- b", "-- c")], ["- definitions, 1 changed: in specs/Words.antt `dashed`"]),
     ("a quoted blank", [(WORDS, "-- b", "--  b")], ["- definitions, 1 changed: in specs/Words.antt `dashed`"]),
     ("the head of a module", [(WORDS, "(s : List ℕ)", "(s t : List ℕ)")], ["- definitions, 1 changed: in specs/Words.antt `inner`"]),
-    ("how tightly an operator binds", [(WORDS, "infixl 10", "infixl 20")], ["- definitions, 1 changed: in specs/Words.antt `_⊕_`"]),
+    ("how tightly an operator binds", [(WORDS, "infixl 10", "infixl 20")], ["- definitions, 1 changed: in specs/Words.antt `◌⊕◌`"]),
     ("new and gone", [(WORDS, "turned", "twisted")], [
         "- definitions, 1 new: in specs/Words.antt `twisted`", "- definitions, 1 gone: in specs/Words.antt `turned`"]),
     ("a type and a constant", [(CODE, "one: u32", "one: u64"), (CODE, "= 7", "= 8")], ["- definitions, 2 changed: in src/lib.rt `MOST`, `Pair`"]),
     ("a promise", [(SURE, "turned n ≡ n", "turned n ≡ turned n")], ["- promises, 1 changed: in specs/Sure.antt `Sure`"]),
-    ("a public contract", [(CODE, "r ≡ turned n", "r ≡ n")], ["- public contracts, 1 changed: in src/lib.rt `go`"]),
+    ("a public contract", [(CODE, "result ≡ turned n", "result ≡ n")], ["- public contracts, 1 changed: in src/lib.rt `go`"]),
     ("a private contract", [(CODE, "fn help(n: u32)", "fn help(n: u64)")], ["- private contracts, 1 changed: in src/lib.rt `help`"]),
     ("a function made public", [(CODE, "fn help", "pub fn help")], ["- public contracts, 1 no longer private contracts: in src/lib.rt `help`"]),
     ("a function made private", [(CODE, "pub fn go", "fn go")], ["- private contracts, 1 no longer public contracts: in src/lib.rt `go`"]),
@@ -135,16 +135,16 @@ CASES = [
     ("a name that stands a third time, before the others", [
         (WORDS, "module _ (s", "module _ where\n  abbrev pub inner : ℕ\n  inner = 1\n\nmodule _ (s")], ["- definitions, 1 new: in specs/Words.antt `inner`"]),
     ("a name of a definition from elsewhere", [(WORDS, "lib.Codes", "lib.Signs")], ["- definitions, 1 with other imports: in specs/Words.antt `dashed`"]),
-    ("a name of a contract from elsewhere", [(OUT, "crate::Pair", "crate::other::Pair")],
+    ("a name of a contract from elsewhere", [(OUT, "crate::{Least", "crate::other::{Least")],
      ["- public contracts, 1 with other imports: in src/out.rt `out`"]),
     ("a name of code from elsewhere", [(OUT, "crate::standing", "crate::other::standing")], ["- code, 1 with other imports: in src/out.rt `out`"]),
-    ("attributes", [(OUT, "#[no_mangle]\n", ""), (OUT, "#[repr(C)]\n", "")],
+    ("attributes", [(OUT, "#[unsafe(no_mangle)]\n", ""), (OUT, "#[repr(C)]\n", "")],
      ["- definitions, 1 changed: in src/out.rt `Plain`", "- public contracts, 1 changed: in src/out.rt `out`"]),
     ("a method of another type", [(OUT, "impl Plain", "impl Pair")], ["- private contracts, 1 changed: in src/out.rt `Pair::least`"]),
     ("a constant, behind a comment's semicolon", [(CODE, "2, // two", "3, // two")], ["- definitions, 1 changed: in src/lib.rt `STEPS`"]),
     ("code in one line", [(CODE, "{ 0 }", "{ 1 }")], ["- code, 1 changed: in src/lib.rt `zero`"]),
     ("code under the same contract", [(CODE, "    help(n)", "    n")], ["- code, 1 changed: in src/lib.rt `go`"]),
-    ("proofs", [(PROOF, "sure n = refl", "sure zero = refl\nsure (suc n) = refl"), (PROOF_OF_GO, "search needs", "omega"),
+    ("proofs", [(PROOF, "sure n = refl", "sure zero = refl\nsure (suc n) = refl"), (PROOF_OF_GO, "search rules", "omega arith"),
                 ("crates/low/proofs/More.antt", None, "-- More.\npub more : Sure\nmore = sure\n")],
      ["- proofs, 2 changed: `Sure` (+2 −1), `go` (+1 −1)", "- proofs, 1 new: `More` (+2)"]),
     ("carried to another crate", [(WORDS, TURNED, ""), (TOP_WORDS, None, TURNED)],
@@ -181,15 +181,21 @@ Crates: high stands on nothing (before: low).
 - definitions, 1 with other imports: in specs/Words.antt `dashed`
 - not moved: 8 definitions, 1 promises (all), 2 public contracts (all), 4 private contracts (all), 6 code (all), \
 2 proofs (all, 1 with other imports), 1 edits (all)"""
-LOGS = ["""rt: low proved (3 s)
-rt: must-fail low/wrong: refused, as it must be (first at src/lib.rt:9:5; 4 s)
+LOGS = ["""rt: low proved
+rt: must-fail low/wrong.edit: refused, as it must be: ./proofs/Sure.antt:3:1: error: `sure`: no
+rt: ok; handles allowed: none; must-fail edits: 1 refused; every proof and must-fail edit was done in this run
+2 passed, 0 failed
+== proofs and must-fail edits took 61 s
+== samples took 3 s
 9 passed, 0 failed
 
 real\t1m5.400s
 user\t1m50.000s
 sys\t0m10.000s
-""", """rt: low proved (2 s)
-rt: high proved (1 s)
+""", """rt: low is kept: an earlier run on this machine proved the same files over the same libraries
+rt: ok; handles allowed: none; done in this run: 1 of the 2 proofs (of crates and of their tests); the others are kept from earlier runs
+== proofs and must-fail edits took 4 s
+== pictures took 2 s
 8 passed, 1 failed
 """]
 GATE = """| The gate | before | after |
@@ -197,10 +203,10 @@ GATE = """| The gate | before | after |
 | clock | 1 min 5 s | – |
 | processor | 2 min 0 s | – |
 | passed, failed | 9, 0 | 8, 1 |
-| checks of all crates, s | 3 | 3 |
-| edits of all crates, s | 4 | 0 |
-| low: its check, its edits, s | 3, 4 | 2, – |
-| high: its check, its edits, s | –, – | 1, – |"""
+| proofs done by `rt ci` | every proof | 1 of the 2 |
+| proofs and must-fail edits, s | 61 | 4 |
+| samples, s | 3 | – |
+| pictures, s | – | 2 |"""
 
 
 def written(folder, texts):
@@ -237,7 +243,7 @@ def faults_of_cases(room):
         told = told_of(room, str(at), changes)
         lines = [line for line in told.split("\n") if line.startswith("- ") and not line.startswith("- not moved")]
         yield label, differing("\n".join(lines), "\n".join(due)) + ([] if due or told.startswith("Nothing moved in: low, high.") else [told])
-    imports = [(PROOF, "·specs.specs", ".specs")]
+    imports = [(PROOF, "low.specs", "low.proofs")]
     whole = [(WORDS, "turned n = n", "turned n = 1"), (WORDS, "lib.Codes", "lib.Signs"), *imports, ("crates.txt", "high: low", "high:")]
     yield "a whole page", differing(told_of(room, "whole", whole), WHOLE)
     yield "imports of proofs", differing(told_of(room, "imports", imports), "Nothing moved in: low, high. Of these, proofs with other imports in: low.")
@@ -266,7 +272,7 @@ def faults_of_times(room):
     old = os.path.join(room, "old")
     for changes, due in (([(WORDS, "turned n = n", "turned n = 1")], ["low", "high"]), ([(TOP_WORDS, "9", "8")], ["high"]),
                          ([("crates.txt", "high: low", "high:")], ["high"]), ([(EDITS, "n + 1", "n + 2")], []),
-                         ([(OUT, "crate::standing", "crate::other::standing")], ["low", "high"]), ([(PROOF, "·specs.specs", ".specs")], ["low", "high"])):
+                         ([(OUT, "crate::standing", "crate::other::standing")], ["low", "high"]), ([(PROOF, "low.specs", "low.proofs")], ["low", "high"])):
         new = written(os.path.join(room, "times"), changed(changes))
         yield "crates to be timed", differing(moved.crates_that_moved(old, new), due)
     written(room, dict(zip(("old.log", "new.log"), LOGS)))

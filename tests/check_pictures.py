@@ -3,7 +3,7 @@
 
     python3 tests/check_pictures.py PROGRAM [WORD ..]
 
-PROGRAM and the words after it are the command that runs replay, say `tools/x86 run target/bin/replay`. The pictures are made again and compared. What
+PROGRAM and the words after it are the command that runs replay, say `tools/x86 run crates/replay/out/replay`. The pictures are made again and compared. What
 they show is compared with crates.txt, with the names in the sources, and with what replay prints: each move of the session is gone by its scripts, and
 calls of every sort are tried in every state, so that no move is left out. And that they can be read: no text over another, no line through a text or a box.
 The last line is 'N passed, M failed'; the exit status is 0 only if nothing failed.
@@ -96,7 +96,7 @@ def faults_of_functions(picture):
 
 def faults_of_names():
     codes = re.findall(r"^(\w+) = (\d+)$", read(os.path.join(TOP, "crates", "conduct", "specs", "Codes.antt")), re.MULTILINE)
-    due = {int(number): name.lower() for name, number in codes}
+    due = {int(number): name.replace("_", "").lower() for name, number in codes}
     drawn = {number: name.replace(" ", "").lower() for number, name in session_moves.NAMES.items()}
     yield "session.svg", [] if drawn == due else ["the names of events are not those of Codes.antt"]
     states = re.search(r"pub enum State \{(.*?)\n\}", read(os.path.join(TOP, "crates", "conduct", "src", "lib.rt")), re.DOTALL).group(1)

@@ -1,11 +1,11 @@
 #!/usr/bin/env bash
 # Runs the line side and the C tests as clang builds them with its address and undefined behaviour sanitizers. The archive
 # itself has none. Where clang or its runtime is missing, or the machine is not x86-64, this says so and counts nothing.
-# Needs the archive and target/bin/items.
+# Needs the archive and the program `items`.
 set -u
 cd "$(dirname "$0")/.." || exit 1
 scratch=target/sanitized
-archive=target/staticlib/libline.a
+archive=crates/line/out/libline.a
 passed=0 failed=0
 export ASAN_OPTIONS=detect_leaks=0 # nothing here allocates, and looking for leaks needs a right that not every machine gives
 

@@ -270,7 +270,7 @@ def run_all(arguments, tally):
 
 def read_arguments():
     parser = parser_of_comparison("Holds the line side in C against items and the independent model.", "stream", 100)
-    parser.add_argument("--items", default=os.path.join(TOP, "target", "bin", "items"), help="the listing program (%(default)s)")
+    parser.add_argument("--items", default=os.path.join(TOP, "crates", "items", "out", "items"), help="the listing program (%(default)s)")
     parser.add_argument("line", help="host/line_side.c, built")
     parser.add_argument("interrupted", help="tests/c/line_side_interrupted.c, built")
     arguments = parser.parse_args()

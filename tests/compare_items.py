@@ -3,7 +3,7 @@
 
     python3 tests/compare_items.py [--cases N] [--seed S] [--case I] PROGRAM [WORD ..]
 
-PROGRAM and the words after it are the command that runs it, say `tools/x86 run target/bin/items`. First checks that the
+PROGRAM and the words after it are the command that runs it, say `tools/x86 run crates/items/out/items`. First checks that the
 index of the papers' examples (independent/paper_index.py) names only tests that are there. Runs the inputs that were
 written by hand with the output due and the samples of the papers, from a file and bit by bit through a pipe, a stream
 of several MB, reads and writes that fail, and N random streams. A difference is printed with what repeats it. The last

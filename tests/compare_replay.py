@@ -3,7 +3,7 @@
 
     python3 tests/compare_replay.py [--cases N] [--seed S] [--case I] PROGRAM [WORD ..]
 
-PROGRAM and the words after it are the command that runs it, say `tools/x86 run target/bin/replay`. Runs the model's own
+PROGRAM and the words after it are the command that runs it, say `tools/x86 run crates/replay/out/replay`. Runs the model's own
 tests, the scripts that were written by hand with the output due, from a file and bit by bit through a pipe, reads and
 writes that fail, the fixed vectors of tests/vectors/session.txt, which are also made again, those captured before a
 request, under the settings that keep their meaning (tests/independent/session_captured.py), N random scripts, and one

@@ -6,17 +6,18 @@ from dataclasses import dataclass
 from reporting import TOP, crates_of, files, read
 
 # The brace of a body stands at the margin of `fn` where there is a contract, and behind the signature where there is none; a body may end in its line.
+# What stands deeper than `fn`, or begins with the signature's closing bracket, is its signature and its contract.
 FUNCTION = re.compile(
-    r'^( *)((?:#\[[^\n]*\]\s+(?://[^\n]*\s+)*)*)((?:pub(?:\(crate\))? )?(?:extern "C" )?fn (\w+)(?:<[^>]*>)?'
-    r'(\((?:[^\n]*?(?= \{[^\n⌝]*\}$)|.*?(?=(?:^\1| )\{(?:\}$|\n)))))(?:^\1| )\{([^\n]*(?=\}$)|\n.*?(?=^\1\}))',
+    r'^( *)((?:#\[[^\n]*\]\s+(?://[^\n]*\s+)*)*)((?:pub(?:\(crate\))? )?(?:extern "C" )?fn (\w+)'
+    r'([^\n{]*(?:\n\1(?: [^\n]*|\)[^\n{]*))*))(?: |\n\1)\{([^\n]*(?=\}$)|\n.*?(?=^\1\}))',
     re.MULTILINE | re.DOTALL)
-IMPLEMENTATION = re.compile(r"^impl (\w+)", re.MULTILINE)
-REQUIRES = re.compile(r"\brequires\b")
-ENSURES = re.compile(r"ensures (?:\w+ )?\{ λ (\w+)\. ⌜ (.*?) ⌝ \}", re.DOTALL)
-LENT = re.compile(r"(\w+): &mut ")
-IMPORT = re.compile(r"^ghost use Rattle·(\w+)(?:·specs)?\.specs\.([\w.]+)\.\{(.*)\};", re.MULTILINE)
-ALIAS = re.compile(r"(\w+) as ([\w·]+)")
-
+IMPLEMENTATION = re.compile(r"^impl(?:<[^>]*>)? (?:\w+ for )?(\w+)", re.MULTILINE)
+REQUIRES = re.compile(r"^ +requires\b", re.MULTILINE)
+ENSURES = re.compile(r"^ +ensures (?:\w+ )?\{((?:[^{}]|\{(?:[^{}]|\{[^{}]*\})*\})*)\}", re.MULTILINE)
+RESULT = re.compile(r"(?<![\w.])result\b")
+LENT = re.compile(r"(\w+): &mut |&mut (self)\b")
+IMPORT = re.compile(r"^ghost use Rattle\.(\w+)\.specs\.([\w.]+)\.\{([^}]*)\};", re.MULTILINE)
+ALIAS = re.compile(r"(\S+) as (\S+)")
 
 @dataclass
 class Function:
@@ -29,7 +30,7 @@ class Function:
     contract: str  # as it is written, with attributes and the signature in front
     body: str
     asks: bool  # whether it has a `requires`
-    equations: list  # (the result's name or '_', what is ensured of it)
+    equations: list  # what is ensured, where `result` is the result
     lent: list  # the parameters that it may write to
     imports: dict  # name in a contract -> (crate, file of specs/, name there)
 
@@ -45,7 +46,7 @@ def flat(text):
 def imports_of(code):
     found = {}
     for crate, module, names in IMPORT.findall(code):
-        for name in names.split(", "):
+        for name in filter(None, map(str.strip, names.split(","))):
             alias = ALIAS.fullmatch(name)
             old, new = alias.groups() if alias else (name, name)
             found[new] = (crate, module.split(".")[0], old)
@@ -66,8 +67,8 @@ def functions_of(crate, top=TOP):
             indent, attributes, contract, name, head, body = found.groups()
             yield Function(crate, os.path.relpath(source, top), "" if module == "lib" else module, owner_at(code, found.start(), indent), name,
                            contract.startswith("pub "), attributes + contract, body,
-                           bool(REQUIRES.search(head)), [(result, flat(clause)) for result, clause in ENSURES.findall(head)],
-                           LENT.findall(head.split("ensures")[0]), imports)
+                           bool(REQUIRES.search(head)), [flat(clause) for clause in ENSURES.findall(head)],
+                           [name or own for name, own in LENT.findall(ENSURES.sub("", head))], imports)
 
 
 def libraries():

@@ -12,15 +12,15 @@ import re
 import sys
 
 from check_answers import laws_of, name_of_law
-from contracts import libraries, public_functions
-from reporting import TOP, read, report
+from contracts import RESULT, libraries, public_functions
+from reporting import TOP, crates_of, read, report
 
 PAGE = os.path.join(TOP, "docs", "FUNCTIONS.md")
 HEAD = """# Every public function and what determines it
 
 `python3 tests/list_functions.py --write` makes this page from the sources, and the gate holds it to them ([list_functions.py](../tests/list_functions.py)).
-No function here has a `requires`. An equation is of the result (`r`) or of what is left of something that was lent (`now (x .exit)`), and has on
-its other side only what went in, so by one law, [`one-answer`](../crates/laws/proofs/OneAnswer.antt), no second result fits; the law in the last column says so of
+No function here has a `requires`. An equation is of the `result` or of what is left of something that was lent (`x.new`), and has on
+its other side only what went in, so by one law, [`one_answer`](../crates/laws/proofs/OneAnswer.antt), no second result fits; the law in the last column says so of
 the function itself, in the words of its contract ([check_answers.py](../tests/check_answers.py)). An equation has the names of its source file, which may
 take a definition under another name (`Answers·told` is `told`); the column beside it has the definition's own. Functions that are not determined stand in [EXCEPTIONS](EXCEPTIONS.md).
 Wrong versions are in [DEMANDS](DEMANDS.md).
@@ -28,13 +28,14 @@ Wrong versions are in [DEMANDS](DEMANDS.md).
 
 
 def definitions_of(function):
-    names = re.findall(r"[\w·]+", " ".join(clause for _, clause in function.equations))
+    names = re.findall(r"(?<![\w·'.])[\w·']+", " ".join(function.equations))
     met = [function.imports[name] for name in dict.fromkeys(names) if name in function.imports]
-    return ", ".join("[`%s`](../crates/%s/specs/%s.antt)" % (name, crate, file) for crate, file, name in met if file != "declared")
+    own = crates_of(TOP)
+    return ", ".join("[`%s`](../crates/%s/specs/%s.antt)" % (name, crate, file) for crate, file, name in met if crate in own and file != "declared")
 
 
 def row_of(function):
-    equations = "<br>".join("`%s`" % clause for _, clause in function.equations)
+    equations = "<br>".join("`%s`" % clause for clause in function.equations)
     law = name_of_law(function, laws_of(function.crate))
     short = "::".join(part for part in (function.module, function.owner, function.name) if part)
     return "| [%s](../%s) | %s | %s | [`%s`](../crates/%s/proofs/OneAnswer.antt) |" % (
@@ -56,11 +57,11 @@ def shortcomings(function):
         yield "it has a `requires`"
     if not function.equations:
         yield "it has no equation"
-    said = " ".join(clause for _, clause in function.equations)
+    said = " ".join(function.equations)
     for name in function.lent:
-        if "(%s .exit)" % name not in said:
+        if not re.search(r"(?<![\w.])%s\.new\b" % name, said):
             yield "nothing is said of what it leaves of `%s`" % name
-    if function.equations and all(result == "_" for result, _ in function.equations):
+    if function.equations and not RESULT.search(said):
         yield "nothing is said of its result"
 
 

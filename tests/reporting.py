@@ -26,7 +26,7 @@ def edits_of(label, text):
 
 def crates_of(top):
     """The crates of a checkout in the order of its crates.txt, each with those that it stands on."""
-    return {name: below.split() for name, below in re.findall(r"^(\w+):([^#\n]*)", read(os.path.join(top, "crates.txt")), re.MULTILINE)}
+    return {name: below.split() for name, below in re.findall(r"^(\w+)(?: [^:#\n]*)?:([^#\n]*)", read(os.path.join(top, "crates.txt")), re.MULTILINE)}
 
 
 def has_promises(path):

@@ -1,7 +1,8 @@
 """Which definitions and laws of the specs and proofs nothing uses, and which imports their file does not use. It looks at the texts alone.
 
-A name is a run of characters other than spaces and ( ) { } . ; , @ " « »; the operator _≡_ is used as ≡, and _>>=_ by ← too. What a proof binds hides
-what is imported, or defined in the file, under the same name, which a text does not show: such a name counts as used.
+A name is a run of characters other than spaces and ( ) { } . ; , @ " « »; the operator ◌≡◌ is used as ≡, and ◌>>=◌ by ← too. What stands behind a
+dot is a field, or a name of another file. What a proof binds hides what is imported, or defined in the file, under the same name, which a text does not
+show: such a name counts as used. Of the code, logic is what stands in clauses, ghost items and `tactic` attributes.
 """
 import collections
 import os
@@ -11,11 +12,12 @@ from reporting import TOP, edits_of, files, must_fail_edits, read
 
 NAME = r"[^\s(){}.;,@\"«»]+"
 COMMENT = re.compile(r"(?:^|(?<=\s))(?:--|//).*", re.MULTILINE)
-USE = re.compile(r"^(?:(pub|ghost) )?use (\S+?)(?:\.\{([^}]*)\}| as (\S+?))?;?$", re.MULTILINE)
-MODULE = re.compile(r"Rattle·(\w+)(?:·\w+)?\.(specs|proofs)\.(.+)")
+BRACES = r"\{((?:[^{}]|\{(?:[^{}]|\{[^{}]*\})*\})*)\}"
+USE = re.compile(r"^(?:(pub|ghost) )?use ([^\s{]+?)(?:(?:\.|::)%s| as (\S+?))?;?$" % BRACES, re.MULTILINE)
+MODULE = re.compile(r"Rattle\.(\w+)\.(specs|proofs)\.(.+)")
 QUALIFIED = re.compile(r"(?<![^\s(){};,@])(%s)\.(%s)" % (NAME, NAME))
-CONTRACT = re.compile(r"⌜(.*?)⌝", re.DOTALL)
-PROJECTION = re.compile(r"(?<=[\s)])\.%s" % NAME)
+LOGIC = re.compile(r"\b(?:requires|ensures|invariant|ghost (?!use\b))[^{};]*%s|#!?\[tactic\(([^\]]*)\)\]" % BRACES)
+PROJECTION = re.compile(r"(?<=[^\s({;,@\"«])\.%s" % NAME)
 DEFINITION = re.compile(r" *(?:(?:unfoldable )?(?:abbrev )?(?:pub )?(%s)(?: \{[^}]*\})? :(?!\S)|(?:pub )?(?:record|data) (%s))" % (NAME, NAME))
 STATEMENT = re.compile(r"^abbrev pub (\w+) : Type 0$", re.MULTILINE)
 PROMISE = re.compile(r" *pub \S+ : (\w+)$")
@@ -31,7 +33,7 @@ class Source:
         self.label, self.module = os.path.relpath(path, TOP), (crate, side, module.replace("/", "."))
         text = COMMENT.sub("", read(path))
         self.imports, self.code = USE.findall(text), USE.sub("", text)
-        self.words = words_of("\n".join(CONTRACT.findall(self.code)) if side == "src" else self.code)
+        self.words = words_of("\n".join(map("".join, LOGIC.findall(self.code))) if side == "src" else self.code)
 
 
 def words_of(code):
@@ -42,26 +44,28 @@ def words_of(code):
 
 
 def is_used(name, words):
-    return words[name] > 0 or ("_" in name and all(words[part] > 0 for part in name.split("_") if part))
+    return words[name] > 0 or ("◌" in name and all(words[part] > 0 for part in name.split("◌") if part))
 
 
 def imported(names):
-    """(its name there, its name here) of each name of a list."""
-    for name in names.split(","):
+    """(its name there, its name here) of each name of a list; a list of Rust has paths and further lists in it."""
+    for name in re.split(r"[,{}]", names):
         there, _, here = name.strip().partition(" as ")
-        yield there, here or there
+        if there and there != "self" and not there.endswith("::"):
+            yield there, here or there.split("::")[-1]
 
 
 def unused_imports(source):
     for mark, path, names, alias in source.imports:
         if mark == "pub":
             continue
-        if alias and not re.search(r"(?<![^\s(){};,@])%s\." % re.escape(alias), source.code):
+        if alias and not re.search(r"(?<![^\s(){};,@])%s(?:\.|::)" % re.escape(alias), source.code):
             yield "imports %s and does not use it" % alias
-        elif not alias and not names and path.split("::")[-1] not in re.findall(r"\w+", source.code):
+        elif not alias and not names and re.split(r"::|\.", path)[-1] not in re.findall(r"\w+", source.code):
             yield "imports %s and does not use it" % path
-        for _, name in imported(names) if names else ():
-            if not is_used(name, source.words):
+        of_rust = source.module[1] == "src" and mark != "ghost"
+        for _, name in imported(names):
+            if name not in re.findall(r"\w+", source.code) if of_rust else not is_used(name, source.words):
                 yield "imports %s and does not use it" % name
 
 
@@ -106,12 +110,15 @@ def citations(sources):
 
 
 def looked_up(source, name, line, statements):
-    """What no file has to cite: a function's proof, which the prover looks up, a promise, and a law that tests/check_answers.py looks up."""
-    folder, _, file = source.module[2].rpartition(".")
-    if file == "Proof" and name == folder.split(".")[-1].replace("_", "-") + "-spec":
+    """What no file has to cite: an answer or an invariant, which the prover looks up by its name, a promise, and a law that tests/check_answers.py looks up."""
+    _, side, module = source.module
+    folder, _, file = module.rpartition(".")
+    if side == "proofs" and folder and file in ("Answers", "Invariants") and re.search(r" : \w+\.%s$" % re.escape(name), line):
+        return True
+    if file == "Proof" and re.sub(r"[-_]spec$", "", name) == folder.split(".")[-1]:
         return True
     promise = PROMISE.match(line)
-    return name.endswith("-once") or (promise is not None and promise.group(1) in statements)
+    return name.endswith("_once") or (promise is not None and promise.group(1) in statements)
 
 
 def unused_definitions(source, cited, statements):

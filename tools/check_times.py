@@ -7,12 +7,13 @@
     ... --rounds N                              each check N times, of which the least counts (default: 1)
     ... --gate LOG | --gate OLD_LOG NEW_LOG     the gate's own figures too, or alone where no checkout is named
 
-A check is `rt check CRATE` from nothing, with nothing else at its side: what the crate stands on is proved before and not counted, and what was kept
-of the crate itself (target/stamp/CRATE, target/rlib/CRATE.rlib) is removed. The few moments in which rt looks at the crates below count, and a
-program's compiling and its run. It is done in a copy, so that the checkout stays as it is. Clock is the time from its start to its end; processor is
-user and system time of all that it started. Compare figures of one machine only, and the clock only where nothing else ran.
+A check is `rt check` in the crate's folder, from nothing and by one job, with nothing else at its side: what the crate stands on is proved before and not
+counted. rt begins a check with what was kept for the same text anywhere on the machine, so a comment is added to the code, another one each time. The few
+moments in which rt looks at the crates below count. It is done in a copy, so that the checkout stays as it is. Clock is the time from its start to its end;
+processor is user and system time of all that it started. Compare figures of one machine only, and the clock only where nothing else ran.
 
-A log of the gate is what `{ time .ci/run; } 2>&1 | tee LOG` leaves: the last lines are those of bash's `time`.
+A log of the gate is what `{ time .ci/run; } 2>&1 | tee LOG` leaves: the last lines are those of bash's `time`. Told are its steps, and before them how
+much of the proofs `rt ci` did in that run: what an earlier one passed on the same machine takes no time.
 A bad argument, or a file that cannot be read: a word on standard error, and status 2. A crate that is not proved: what rt said, and status 1.
 """
 import argparse
@@ -26,11 +27,13 @@ import tempfile
 import time
 
 from checkouts import UNREADABLE, crates_of
-from cost import EDIT, PROVED, row
+from cost import STEP, row
 from moved import crates_that_moved
 
 CLOCK = re.compile(r"^(real|user|sys)\s+(?:(\d+)m)?([\d.]+)s?$", re.MULTILINE)
 COUNT = re.compile(r"^(\d+) passed, (\d+) failed$", re.MULTILINE)
+DONE = re.compile(r"^rt: ok;.*?(?:(every proof)|done in this run: (\d+ of the \d+) proofs)", re.MULTILINE)
+KEPT = "begins with what a check kept"
 NOTHING = "–"
 
 
@@ -50,25 +53,16 @@ def below(crates, crate):
 def copied(checkout, room, needed):
     """A copy of the sources, with the libraries that are needed and proved already: rt holds them to their stamps, and proves them where they differ."""
     shutil.copy(os.path.join(checkout, "crates.txt"), room)
-    shutil.copytree(os.path.join(checkout, "crates"), os.path.join(room, "crates"))
-    for kept in [path for name in needed for path in ("target/stamp/" + name, "target/rlib/%s.rlib" % name)]:
-        old, new = os.path.join(checkout, kept), os.path.join(room, kept)
+    shutil.copytree(os.path.join(checkout, "crates"), os.path.join(room, "crates"), ignore=shutil.ignore_patterns("out"))
+    for old, new in [[os.path.join(top, "crates", name, "out", "rlib") for top in (checkout, room)] for name in needed]:
         if os.path.exists(old):
-            os.makedirs(os.path.dirname(new), exist_ok=True)
-            (shutil.copytree if os.path.isdir(old) else shutil.copy)(old, new)
+            shutil.copytree(old, new)
 
 
-def removed(path):
-    if os.path.isdir(path):
-        shutil.rmtree(path)
-    elif os.path.exists(path):
-        os.remove(path)
-
-
-def proved(room, crates):
-    """Has rt check the crates, and gives the seconds of the clock and of the processor."""
+def rt(room, crate, *words):
+    """Has rt do something in a crate, and gives the seconds of the clock and of the processor, and what it said."""
     began, before = time.monotonic(), resource.getrusage(resource.RUSAGE_CHILDREN)
-    done = subprocess.run(["rt", "check", *crates], cwd=room, stdout=subprocess.PIPE, stderr=subprocess.STDOUT, text=True, check=False)
+    done = subprocess.run(["rt", *words], cwd=os.path.join(room, "crates", crate), stdout=subprocess.PIPE, stderr=subprocess.STDOUT, text=True, check=False)
     clock, after = time.monotonic() - began, resource.getrusage(resource.RUSAGE_CHILDREN)
     if done.returncode:
         raise NotProved(done.stdout)
@@ -77,10 +71,14 @@ def proved(room, crates):
 
 def checked(room, crate):
     """(clock, processor) of one check of a crate from nothing."""
-    removed(os.path.join(room, "target", "stamp", crate))
-    removed(os.path.join(room, "target", "rlib", crate + ".rlib"))
-    clock, processor, said = proved(room, [crate])
-    if crate not in dict(PROVED.findall(said)):
+    out, code = (os.path.join(room, "crates", crate, name) for name in ("out", "src"))
+    shutil.rmtree(out, ignore_errors=True)
+    os.makedirs(os.path.join(out, "incremental"))  # which is empty, and goes before what others kept of another text
+    root = next(path for path in (os.path.join(code, name) for name in ("main.rt", "lib.rt")) if os.path.exists(path))
+    with open(root, "a", encoding="utf-8") as file:
+        file.write("// timed: %s %d\n" % (room, time.time_ns()))
+    clock, processor, said = rt(room, crate, "check", "--jobs", "1")
+    if KEPT in said:
         raise NotProved("%s was not checked from nothing:\n%s" % (crate, said))
     return clock, processor
 
@@ -92,8 +90,8 @@ def times_of(checkout, wanted, rounds):
     needed = list(dict.fromkeys(name for crate in wanted for name in below(crates, crate)))
     with tempfile.TemporaryDirectory() as room:
         copied(checkout, room, needed)
-        if needed:
-            proved(room, needed)
+        for name in needed:
+            rt(room, name, "lib")
         found = {crate: [checked(room, crate) for _ in range(rounds)] for crate in wanted}
     return {crate: tuple(map(min, zip(*times))) for crate, times in found.items()}
 
@@ -121,28 +119,25 @@ class Gate:
         spent = {what: 60 * int(minutes or 0) + float(rest) for what, minutes, rest in CLOCK.findall(log)}
         self.clock, self.processor = spent.get("real"), spent["user"] + spent["sys"] if {"user", "sys"} <= set(spent) else None
         self.counts = COUNT.findall(log)[-1:]
-        self.checks = {name: int(took) for name, took in PROVED.findall(log)}
-        self.edits = {}
-        for name, took in EDIT.findall(log):
-            self.edits[name] = self.edits.get(name, 0) + int(took)
+        self.done = next((" ".join(filter(None, found)) for found in DONE.findall(log)), NOTHING)
+        self.steps = dict(STEP.findall(log))
 
 
 def long(figure):
     return NOTHING if figure is None else "%d min %d s" % divmod(round(figure), 60)
 
 
-def tables_of_gate(gates, wanted):
-    """The gate as a whole, and what it says of the wanted crates, or of all: clock seconds, with other checks at their side."""
+def table_of_gate(gates):
+    """The gate as a whole, and its steps: clock seconds, of which some run beside others."""
     sides = ["figure"] if len(gates) == 1 else ["before", "after"]
     row(["The gate"] + sides)
     row(["---"] * (1 + len(sides)))
     row(["clock"] + [long(gate.clock) for gate in gates])
     row(["processor"] + [long(gate.processor) for gate in gates])
     row(["passed, failed"] + [", ".join(count) for gate in gates for count in gate.counts or [[NOTHING]]])
-    row(["checks of all crates, s"] + [sum(gate.checks.values()) for gate in gates])
-    row(["edits of all crates, s"] + [sum(gate.edits.values()) for gate in gates])
-    for crate in wanted or list(dict.fromkeys(name for gate in gates for name in gate.checks)):
-        row([crate + ": its check, its edits, s"] + ["%s, %s" % (gate.checks.get(crate, NOTHING), gate.edits.get(crate, NOTHING)) for gate in gates])
+    row(["proofs done by `rt ci`"] + [gate.done for gate in gates])
+    for name in dict.fromkeys(name for gate in gates for name in gate.steps):
+        row([name + ", s"] + [gate.steps.get(name, NOTHING) for gate in gates])
     print()
 
 
@@ -179,7 +174,7 @@ def main():
     except NotProved as said:
         sys.exit(str(said))
     if given.gate:
-        tables_of_gate([Gate(path) for path in given.gate], wanted)
+        table_of_gate([Gate(path) for path in given.gate])
 
 
 if __name__ == "__main__":

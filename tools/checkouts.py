@@ -70,15 +70,19 @@ def bare(code):
     return NOTE.sub(lambda met: met.group(1) or "", code)
 
 
+def stands_in(name, text):
+    return re.search(r"(?<![\w·'.-])%s(?![\w·'-])" % re.escape(name), text) is not None
+
+
 def imports_in(text, code):
     """The imports of a bare file that a text in it uses, each with its name there and here."""
     found, words = set(), words_of(text)
     for _, path, names, alias in USE.findall(code):
         if names:
-            found |= {(path, there, here) for there, here in imported(names) if is_used(here, words)}
+            found |= {(path, there, here) for there, here in imported(names) if is_used(here, words) or stands_in(here, text)}
         else:
             here = alias or re.split(r"::|\.", path)[-1]
-            found |= {(path, here)} if re.search(r"(?<![\w·′-])%s(?![\w·′-])" % re.escape(here), text) else set()
+            found |= {(path, here)} if stands_in(here, text) else set()
     return frozenset(found)
 
 
@@ -127,13 +131,13 @@ def contracts_of(crate, folder, top):
 
 
 def proofs_of(crate, folder):
-    """A proof of a function has its name, with the module in front; any other has that of its file."""
+    """The answers for a function have its name, with the module in front, its invariants that with a word behind it; any other proof has that of its file."""
     for path in files(folder, "proofs", "**", "*.antt"):
         code = bare(read(path))
         lines = tuple(filter(None, (plain(line, ".antt") for line in NAMING.sub("", USE.sub("", code)).split("\n"))))
         text = " ".join(lines)
         file = os.path.relpath(path, folder)
-        name = re.sub(r"/Proof$", "", os.path.splitext(file)[0]).split("/", 1)[1].replace("+", "").replace("/", "::")
+        name = re.sub(r"(?<=/)(.+)/(?:Answers|Proof)$", r"\1", os.path.splitext(file)[0]).split("/", 1)[1].replace("+", "").replace("/", "::")
         if lines:
             yield Thing("proofs", crate, file, name, text, lines=lines, imports=imports_in(text, code))
 

@@ -1,16 +1,14 @@
 #!/usr/bin/env python3
 """cost.py GATE_LOG: the tables of docs/COST.md, from the sources and from what `.ci/run` printed.
 
-Lines count if they are neither blank nor only a comment. A crate's check and its edits are timed by `rt ci` itself, which runs two at a time on
-two cores: the seconds of all add up to more than the gate takes.
+Lines count if they are neither blank nor only a comment. The seconds are those of the gate's own clock; `rt ci` says of no crate how long it took, which
+check_times.py measures.
 """
 import os
 import re
 import sys
 
 TOP = os.path.dirname(os.path.dirname(os.path.abspath(__file__)))
-PROVED = re.compile(r"^rt: (\w+) proved \((\d+) s\)$", re.MULTILINE)
-EDIT = re.compile(r"^rt: must-fail (\w+)/\S+ refused, as it must be \(.*; (\d+) s\)$", re.MULTILINE)
 STEP = re.compile(r"^== (.*) took (\d+) s$", re.MULTILINE)
 
 
@@ -32,7 +30,12 @@ def sizes(crate):
 
 def crates():
     with open(os.path.join(TOP, "crates.txt"), encoding="utf-8") as file:
-        return re.findall(r"^(\w+):", file.read(), re.MULTILINE)
+        return re.findall(r"^(\w+)(?: [^:#\n]*)?:", file.read(), re.MULTILINE)
+
+
+def edit_files(crate):
+    folder = os.path.join(TOP, "crates", crate, "must-fail")
+    return len([name for name in os.listdir(folder) if name.endswith(".edit")]) if os.path.isdir(folder) else 0
 
 
 def row(cells):
@@ -42,15 +45,12 @@ def row(cells):
 def main():
     with open(sys.argv[1], encoding="utf-8", errors="replace") as file:
         log = file.read()
-    proved = {name: int(seconds) for name, seconds in PROVED.findall(log)}
-    edits = EDIT.findall(log)
-    row(["Crate", "code", "definitions and statements", "proofs", "proof lines to a line of code", "check, s", "edit files", "their checks, s"])
-    row(["---"] * 8)
-    totals = [0] * 6
+    row(["Crate", "code", "definitions and statements", "proofs", "proof lines to a line of code", "edit files"])
+    row(["---"] * 6)
+    totals = [0] * 4
     for crate in crates():
         code, specs, proofs = sizes(crate)
-        spent = [int(seconds) for name, seconds in edits if name == crate]
-        cells = [code, specs, proofs, proved.get(crate, 0), len(spent), sum(spent)]
+        cells = [code, specs, proofs, edit_files(crate)]
         totals = [total + cell for total, cell in zip(totals, cells)]
         row([crate, code, specs, proofs, "%.1f" % (proofs / code) if code else "–", *cells[3:]])
     code, specs, proofs = totals[:3]

@@ -71,9 +71,10 @@ STEPS = [
 
 def crates_of(text):
     """Each crate of crates.txt with those of its crates that it stands on, in the file's order; the kit's own are left out."""
-    lines = [line.split(":") for line in text.splitlines() if line.strip() and not line.startswith("#")]
-    names = [name.strip() for name, _ in lines]
-    return {name.strip(): [word for word in words.split() if word in names] for name, words in lines}
+    lines = [line.partition("#")[0].split(":") for line in text.splitlines() if line.partition("#")[0].strip()]
+    lines = [(name.split()[0], words.split()) for name, words in lines]  # behind a name stands what the crate is, as staticlib
+    names = [name for name, _ in lines]
+    return {name: [word for word in words if word in names] for name, words in lines}
 
 
 def direct(crates):
@@ -164,7 +165,7 @@ def draw_legend(picture, top):
         picture.text(46, top + 5 + 26 * i, words)
     y = top + 26 * len(STEPS) + 12
     picture.line([(14, y), (64, y)])
-    picture.text(74, y + 5, "stands on, directly (the kit's io and libc left out)")
+    picture.text(74, y + 5, "stands on, directly (the kit's libraries left out)")
     picture.byte((500, y), (550, y))
     picture.text(560, y + 5, "the way of a byte")
     picture.rectangle(730, y - 10, 40, 20, dashed=True)
