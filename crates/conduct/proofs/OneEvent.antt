@@ -240,9 +240,9 @@ one_event s (calls.Heard m) ok is accepted =
     (λ u. inr
     (record {
       number = u.0;
-      in_up_lem = u.2.0;
+      in_up = u.2.0;
       is_open = u.2.1;
-      is_ok_lem = u.1;
+      is_ok = u.1;
       says_nothing = ap (λ (a : Answered). a.events) now ∙ u.2.2;
     }))
     (acted_one s m (good {s = s} ok) (action_of s.state m.kind) refl)

@@ -80,9 +80,9 @@ is_message (calls.Unreadable refusal) = true
 
 pub record Silent (s : Session) (c : Call) : Type 0 where
   pub number : ℕ
-  pub in_up_lem : is_up s.state ≡ true
+  pub in_up : is_up s.state ≡ true
   pub is_open : session_ok_numbers s.state ≡ number ∷ []
-  pub is_ok_lem : call_bearing number c ≡ acknowledged ∷ []
+  pub is_ok : call_bearing number c ≡ acknowledged ∷ []
   pub says_nothing : (step s c).events ≡ []
 
 abbrev pub OneEvent : Type 0

@@ -21,7 +21,7 @@ pub record Standing (what : Pushed) (most n : ℕ) (after : List Entry) : Type 0
   pub later : List Entry
   pub handle : ℕ
   pub is_history : history session made ≡ before ++ push ∷ (after ++ later)
-  pub is_push_lem : push.call ≡ calls.Push what handle
+  pub is_push : push.call ≡ calls.Push what handle
   pub is_accepted : push.events ≡ record { code = first_code what; number = n; detail = handle } ∷ []
   pub stands : all (λ (x : Entry). is_up x.state) after ≡ true
   pub ungiven : span n after ≡ after

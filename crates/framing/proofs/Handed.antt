@@ -10,7 +10,7 @@ use lib.Seq.{take_all, take-take}
 use lib.Dec.{leb, eqb}
 use borrow.Author.Tests.{leb-true, leb-false, lt-leb, eq-eqb, ne_eqb, eqb-true}
 use Rattle.framing.specs.Cutting.{item_of}
-use Rattle.framing.specs.Stream.{empty, message, too_long, item_of_part, Handed, an_empty, a_message, too_long_lem, Lent, Begins}
+use Rattle.framing.specs.Stream.{empty, message, too_long, item_of_part, Handed, an_empty, a_message, one_too_long, Lent, Begins}
 
 -- an item that the count tells from its length n and that stands at the start of the store is the item of its part q
 module _ (limit : ℕ) (b q s : List ℕ) (lent : Lent limit b s) (long : length b ≤ length q) (begins : Begins limit b q s) where
@@ -40,4 +40,4 @@ module _ (limit : ℕ) (b q s : List ℕ) (lent : Lent limit b s) (long : length
       go false e false f =
           let over = leb-false (length q - length b) limit f in
           let other : n ≡ length b → ⊥ = λ same. omega (arith, lent.few, lent.countable) in
-          rw (ne_eqb n (length b) other, lt-leb (n - length b) limit (omega (arith, lent.few, lent.countable))) too_long_lem
+          rw (ne_eqb n (length b) other, lt-leb (n - length b) limit (omega (arith, lent.few, lent.countable))) one_too_long

@@ -9,7 +9,7 @@ use lib.Seq.{take-take}
 use Rattle.framing.specs.declared.Item.{Item}
 use Rattle.framing.specs.declared.Item.TheVariants.{NotYet}
 use Rattle.framing.specs.Cutting.{item_number}
-use Rattle.framing.specs.Stream.{joined, Part, StreamItem, item_of_part, items_of_parts, Held, fresh, answer_to, held_after, Handed, an_empty, a_message, too_long_lem, Calls, over, used, cut, Lent, Right}
+use Rattle.framing.specs.Stream.{joined, Part, StreamItem, item_of_part, items_of_parts, Held, fresh, answer_to, held_after, Handed, an_empty, a_message, one_too_long, Calls, over, used, cut, Lent, Right}
 use Rattle.framing.specs.Promises.{gathered_now, Outcome, waits, completes, CallRight, CallsGoOn, Delivers, ItemsOfTheStream, SameHeld, PiecesDoNotMatter}
 use Rattle.framing.proofs.Cuts.{cut_once, not_at_end}
 use Rattle.framing.proofs.OneCall.{every_call_right, match_below, nothing_gathered}
@@ -22,12 +22,12 @@ fresh_right limit b s lent = nothing_gathered limit b (fresh s) lent refl refl
 no_item : {item : Item} {s : List ℕ} {i : StreamItem} → Handed item s i → item ≡ NotYet → ⊥
 no_item an_empty e = omega (arith, ap item_number e)
 no_item a_message e = omega (arith, ap item_number e)
-no_item too_long_lem e = omega (arith, ap item_number e)
+no_item one_too_long e = omega (arith, ap item_number e)
 
 handed_once : {item : Item} {s : List ℕ} {i i' : StreamItem} → Handed item s i → Handed item s i' → i ≡ i'
 handed_once an_empty an_empty = refl
 handed_once a_message a_message = refl
-handed_once too_long_lem too_long_lem = refl
+handed_once one_too_long one_too_long = refl
 
 -- A PART TAKES AT LEAST ONE BYTE of the piece, since none of it is complete before
 takes_some : (limit : ℕ) (b w : List ℕ) (h : Held) (p : List ℕ) → Right limit b w h → Part b (gathered_now limit b w h p) → 0 < (answer_to limit b h p).taken

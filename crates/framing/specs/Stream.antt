@@ -88,7 +88,7 @@ held_after limit b h p =
 pub data Handed : Item → List ℕ → StreamItem → Type 0 where
   an_empty : {s : List ℕ} → Handed Empty s empty
   a_message : {s : List ℕ} {n : ℕ} → Handed (Message n) s (message (take n s))
-  too_long_lem : {s : List ℕ} → Handed TooLong s too_long
+  one_too_long : {s : List ℕ} → Handed TooLong s too_long
 
 -- The calls over a list of pieces, from what is held at first to what is held at last, with the items on the way. A piece that is used up is
 -- followed by the next; after an item the rest of the piece goes to the next call.

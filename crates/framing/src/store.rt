@@ -1,12 +1,12 @@
 // The gathering store: which of the bytes taken go into it, and their copying.
 ghost use Rattle.std.specs.Prelude.{◌≡◌, ◌-◌, ◌≤◌, length};
 ghost use Rattle.std.proofs.Math.Seq.{paste};
-ghost use Rattle.framing.specs.Cutting.{kept as Cutting·kept};
+ghost use Rattle.framing.specs.Cutting.{kept};
 
 // How many of the bytes taken go into the store.
 pub(crate) fn kept(limit: u32, size: usize, gathered: u32, taken: usize) -> usize
     requires { size ≤ 16 }
-    ensures { result ≡ Cutting·kept limit size gathered taken }
+    ensures { result ≡ kept limit size gathered taken }
 {
     let end = limit as usize + size;
     let at = gathered as usize;

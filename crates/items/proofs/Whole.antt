@@ -7,7 +7,7 @@ use native.Mathlib.Omega.{arith}
 use lib.ListN.{length, take, drop, length-take}
 use Rattle.framing.specs.declared.Item.{Item}
 use Rattle.framing.specs.Cutting.{link_limit, answer_of, store_after}
-use Rattle.framing.specs.Stream.{StreamItem, items_of_parts, parts_of, waiting_of, Held, answer_to, held_after, Handed, an_empty, a_message, too_long_lem as handed-too-long, Calls, over, used, cut}
+use Rattle.framing.specs.Stream.{StreamItem, items_of_parts, parts_of, waiting_of, Held, answer_to, held_after, Handed, an_empty, a_message, one_too_long as handed-too-long, Calls, over, used, cut}
 use Rattle.framing.proofs.Cuts.{cut_once}
 use Rattle.framing.proofs.Found.{cut_found}
 use Rattle.framing.proofs.Link.{link_lent}

@@ -230,13 +230,13 @@ module _ (s : List ℕ) where
             (λ f. let same = same_first n' p' n p f first in q ∙ ap (λ (i : ℕ). refused i p') same.0 ∙ ap (refused n) same.1)
             (refused_first n' p' q)
 
-  too_long_lem : 65520 < length s → answer s ≡ refused 8 0
+  too_long : 65520 < length s → answer s ≡ refused 8 0
   unfolding document_at
-  too_long_lem far = document_refused link_limits s 8 0 (rw (lt-ltb 65520 (length s) far))
+  too_long far = document_refused link_limits s 8 0 (rw (lt-ltb 65520 (length s) far))
 
   answered : Answered s
   answered = record {
-    too_long_lem = too_long_lem;
+    too_long = too_long;
     due_first = due_first;
     refused_first = refused_first;
     none_due = none_due;

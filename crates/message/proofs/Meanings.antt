@@ -92,7 +92,7 @@ redundant_is = refl
 pub statuses_mean : StatusesMean
 statuses_mean s from to = record {
   ok = λ q. value_said s to (suc (length s)) from ok_status (status_was_ok (value_of s from to) q);
-  is_ok_lem = λ says. ap status_of (value_whole s from to ok_status says) ∙ ok_is;
+  is_ok = λ says. ap status_of (value_whole s from to ok_status says) ∙ ok_is;
   redundant = λ q. value_said s to (suc (length s)) from redundant_status (status_was_redundant (value_of s from to) q);
   is_redundant = λ says. ap status_of (value_whole s from to redundant_status says) ∙ redundant_is;
 }

@@ -20,7 +20,7 @@ use Rattle.message.specs.Words as words
 use Rattle.message.specs.Seven.{Called, HasAttribute, First, OnlyChild, PerhapsNumber, OneOfSeven, ReadIsOne, ThirteenIsNone, NoneIsThirteen}
 use Rattle.message.specs.Seven.First.{this, later}
 use Rattle.message.specs.Seven.PerhapsNumber.{present, missing as absent}
-use Rattle.message.specs.Seven.OneOfSeven.{open_request_lem, open_response_lem, session_ok_lem, ok, advisory, request, response}
+use Rattle.message.specs.Seven.OneOfSeven.{open_request, open_response, session_ok, ok, advisory, request, response}
 use Rattle.message.specs.declared.Kind.{Kind}
 use Rattle.message.specs.declared.Kind.TheVariants as kinds
 use Rattle.message.specs.declared.Message.{Message}
@@ -198,15 +198,15 @@ module _ (s : List ℕ) (l : Limits) where
         where
           go : (k : Kind) → Called s (words.kind_name k) root.tag → message_of_kind class_of l s root k ≡ whole m → OneOfSeven s root m
           go kinds.SessionOpenRequest c h =
-              subst (OneOfSeven s root) (whole_same h) (open_request_lem refl c (no_status_lem s) (no_number_lem s) (no_number_lem s) (no_number_lem s) (no_type_lem s))
+              subst (OneOfSeven s root) (whole_same h) (open_request refl c (no_status_lem s) (no_number_lem s) (no_number_lem s) (no_number_lem s) (no_type_lem s))
           go kinds.SessionOpenResponse c h =
               let x = needed_there words.status root.tag own _ h in
               subst (OneOfSeven s root) (whole_same x.2)
-              (open_response_lem refl c (status_there s words.status root.tag x.0 x.1) (no_number_lem s) (no_number_lem s) (no_number_lem s) (no_type_lem s))
+              (open_response refl c (status_there s words.status root.tag x.0 x.1) (no_number_lem s) (no_number_lem s) (no_number_lem s) (no_type_lem s))
           go kinds.SessionOk c h =
               let x = needed_there words.identity root.tag own _ h in
               subst (OneOfSeven s root) (whole_same x.2)
-              (session_ok_lem refl c (number_there s words.identity root.tag x.0 x.1) (no_status_lem s) (no_number_lem s) (no_number_lem s) (no_type_lem s))
+              (session_ok refl c (number_there s words.identity root.tag x.0 x.1) (no_status_lem s) (no_number_lem s) (no_number_lem s) (no_type_lem s))
           go kinds.Ok c h =
               let x = needed_there words.in_response_to root.tag own _ h in
               subst (OneOfSeven s root) (whole_same x.2)
@@ -231,9 +231,9 @@ module _ (s : List ℕ) (l : Limits) where
               (response e.0 refl c only (perhaps_number words.in_response_to e.0.tag (childs words.query_response e.0 only)) (no_status_lem s) (no_number_lem s) (no_number_lem s) (no_type_lem s))
 
       one_rest : (m : Message) → OneOfSeven s root m → is_whole rest ≡ true
-      one_rest m (open_request_lem k c _ _ _ _ _) = begun kinds.SessionOpenRequest c refl
-      one_rest m (open_response_lem k c v _ _ _ _) = begun kinds.SessionOpenResponse c (reads_then _ (there_needed words.status root.tag own v.value v.has) refl)
-      one_rest m (session_ok_lem k c v _ _ _ _) = begun kinds.SessionOk c (reads_then _ (there_needed words.identity root.tag own v.value v.has) refl)
+      one_rest m (open_request k c _ _ _ _ _) = begun kinds.SessionOpenRequest c refl
+      one_rest m (open_response k c v _ _ _ _) = begun kinds.SessionOpenResponse c (reads_then _ (there_needed words.status root.tag own v.value v.has) refl)
+      one_rest m (session_ok k c v _ _ _ _) = begun kinds.SessionOk c (reads_then _ (there_needed words.identity root.tag own v.value v.has) refl)
       one_rest m (ok k c v _ _ _ _) = begun kinds.Ok c (reads_then _ (there_needed words.in_response_to root.tag own v.value v.has) refl)
       one_rest m (advisory e type k c only _ first _ _ _ _) =
           begun kinds.Advisory c (reads_then _ (child_only s words.advisory root e only) (reads_then _ (called_first s words.advisory_type e.inside type first) refl))

@@ -27,7 +27,7 @@ answer s = message_of class_of link_limits s
 
 pub record Answered (s : List ℕ) : Type 0 where
   -- 8 comes before all else
-  pub too_long_lem : 65520 < length s → answer s ≡ refused 8 0
+  pub too_long : 65520 < length s → answer s ≡ refused 8 0
   -- what is first due is the answer, and what is refused is first due, or 13
   pub due_first : length s ≤ 65520 → (n p : ℕ) → FirstDue s n p → answer s ≡ refused n p
   pub refused_first : length s ≤ 65520 → (n p : ℕ) → answer s ≡ refused n p → ((n ≡ 13) × (p ≡ 0) × NoneDue s) ⊎ FirstDue s n p

@@ -114,7 +114,7 @@ NumbersMean = (s : List ℕ) (from to n : ℕ) → NamesExactly s from to n
 -- A status is Ok, or RedundantSession, exactly if its text is that URI.
 pub record StatusExactly (s : List ℕ) (from to : ℕ) : Type 0 where
   pub ok : (status_value class_of s (found from to)).status ≡ statuses.Ok → ValueSays s to from ok_status
-  pub is_ok_lem : ValueSays s to from ok_status → (status_value class_of s (found from to)).status ≡ statuses.Ok
+  pub is_ok : ValueSays s to from ok_status → (status_value class_of s (found from to)).status ≡ statuses.Ok
   pub redundant : (status_value class_of s (found from to)).status ≡ statuses.RedundantSession → ValueSays s to from redundant_status
   pub is_redundant : ValueSays s to from redundant_status → (status_value class_of s (found from to)).status ≡ statuses.RedundantSession
 

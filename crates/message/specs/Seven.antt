@@ -96,16 +96,16 @@ module _ (s : List ℕ) where
   -- ---- the seven, each with what it needs and holds: nothing else is there
 
   pub data OneOfSeven (root : Element) (m : Message) : Type 0 where
-    open_request_lem :
+    open_request :
         m.kind ≡ kinds.SessionOpenRequest → Called words.session_open_request root.tag
         → NoStatus m.status → NoNumber m.id → NoNumber m.in_response_to → NoNumber m.in_relation_to → NoType m.advisory_type
         → OneOfSeven root m
-    open_response_lem :
+    open_response :
         m.kind ≡ kinds.SessionOpenResponse → Called words.session_open_response root.tag
         → StatusThere words.status root.tag m.status
         → NoNumber m.id → NoNumber m.in_response_to → NoNumber m.in_relation_to → NoType m.advisory_type
         → OneOfSeven root m
-    session_ok_lem :
+    session_ok :
         m.kind ≡ kinds.SessionOk → Called words.session_ok root.tag
         → NumberThere words.identity root.tag m.id
         → NoStatus m.status → NoNumber m.in_response_to → NoNumber m.in_relation_to → NoType m.advisory_type

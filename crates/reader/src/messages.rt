@@ -5,7 +5,7 @@ ghost use Rattle.message.specs.Reading.{is_whole};
 ghost use Rattle.message.specs.Reading.Reading.{whole};
 ghost use Rattle.scan.specs.Answers.{place_said};
 ghost use Rattle.message.specs.Limits.{link_limits};
-ghost use Rattle.message.specs.Messages.{found_in, no_number, no_status, no_type, attribute_called, number_value, status_value, message as messageOfValues, message_at, answer_said};
+ghost use Rattle.message.specs.Messages.{found_in, no_number, no_status, no_type, attribute_called, number_value, status_value, message, message_at, answer_said};
 ghost use Rattle.elements.specs.Held.{span_said};
 ghost use Rattle.reader.specs.Roots.{name_called, only_called, name_end, kind_named, kind_said, Tells, TellsType, advice_seen};
 ghost use Rattle.message.specs.declared.Kind.TheVariants.{SessionOpenResponse, SessionOk, Ok, Advisory, Request, Response};
@@ -204,7 +204,7 @@ fn session_open_response(s: &[u8], table: &[u8; 256], root: Seen) -> Answer
 
 // A message of a kind that has numbers alone.
 fn numbers(kind: Kind, id: NumberValue, in_response_to: NumberValue) -> Answer
-    ensures { answer_said result ≡ whole (messageOfValues kind no_status id in_response_to no_number no_type) }
+    ensures { answer_said result ≡ whole (message kind no_status id in_response_to no_number no_type) }
 {
     Answer::Read(Message {
         kind,

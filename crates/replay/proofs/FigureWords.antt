@@ -159,7 +159,7 @@ by_its_word : (word : List ℕ) (say : ℕ → Setting)
 by_its_word word say said own =
     record {
       fits = λ text n e. said text n (figure_fits text e);
-      too_long_lem = λ text e long. said text 4294967295 (figure_too_long text e long);
+      too_long = λ text e long. said text 4294967295 (figure_too_long text e long);
       only = λ w n e. word_before word w n (own w n (subst (HeardIn w) e (heard w)));
     }
 

@@ -11,7 +11,7 @@ use lib.Seq.{take_all}
 use borrow.Author.Tests.{leb-true, leb-false}
 use Rattle.framing.specs.declared.Item.{Item}
 use Rattle.framing.specs.Cutting.{link_limit, answer_of, store_after}
-use Rattle.framing.specs.Stream.{StreamItem, items_of_parts, Held, fresh, answer_to, held_after, Handed, an_empty, a_message, too_long_lem, Calls, over, used, cut, Right}
+use Rattle.framing.specs.Stream.{StreamItem, items_of_parts, Held, fresh, answer_to, held_after, Handed, an_empty, a_message, one_too_long, Calls, over, used, cut, Right}
 use Rattle.framing.specs.Promises.{Outcome, waits, completes}
 use Rattle.framing.proofs.Cuts.{cut_once}
 use Rattle.framing.proofs.Link.{link_lent}
@@ -54,7 +54,7 @@ handed_done : {i : Item} {s : List ℕ} {x : StreamItem} → Handed i s x → (r
 unfolding taken_after
 handed_done an_empty run = refl
 handed_done a_message run = refl
-handed_done too_long_lem run = refl
+handed_done one_too_long run = refl
 
 -- ---- all of them
 

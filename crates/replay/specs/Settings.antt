@@ -69,7 +69,7 @@ Says text n = (is_decimal text ≡ true) × ((decimal_of text ≡ Names n) ⊎ (
 -- a line sets a figure exactly if it is its word and such a text
 pub record ByItsWord (word : List ℕ) (say : ℕ → Setting) : Type 0 where
   pub fits : (text : List ℕ) (n : ℕ) → decimal_of text ≡ Names n → line_of (word ++ text) ≡ lines.Set (say n)
-  pub too_long_lem : (text : List ℕ) → decimal_of text ≡ Nothing → is_decimal text ≡ true → line_of (word ++ text) ≡ lines.Set (say 4294967295)
+  pub too_long : (text : List ℕ) → decimal_of text ≡ Nothing → is_decimal text ≡ true → line_of (word ++ text) ≡ lines.Set (say 4294967295)
   pub only : (w : List ℕ) (n : ℕ) → line_of w ≡ lines.Set (say n)
       → (text : List ℕ) × (w ≡ word ++ text) × Says text n
 

@@ -11,7 +11,7 @@ mod script;
 ghost use Rattle.std.specs.Prelude.{◌≡◌, ◌≤◌, length, take};
 ghost use Rattle.framing.specs.Cutting.{link_limit, item_length, store_after};
 ghost use Rattle.replay.specs.Script.{bytes_of_word};
-ghost use Rattle.replay.specs.Runs.{after_call, ticked, ran, set as Runs·set, taken as Runs·taken};
+ghost use Rattle.replay.specs.Runs.{after_call, ticked, ran, set, taken as line_taken};
 ghost use Rattle.replay.specs.Replay.{taken_rest};
 ghost use Rattle.replay.specs.Turns.{boundary, taken_after, turn_of};
 
@@ -101,7 +101,7 @@ fn run_line<W: Write>(output: &mut Output<W>, run: Run, line: Line, bytes: &[u8]
 
 // A line among the settings.
 fn set_line(run: Run, line: Line) -> Run
-    ensures { result ≡ Runs·set run line }
+    ensures { result ≡ set run line }
 {
     match line {
         Line::Nothing => run,
@@ -116,7 +116,7 @@ fn set_line(run: Run, line: Line) -> Run
 
 fn take_line<W: Write>(output: &mut Output<W>, before: Run, line: Line, bytes: &[u8]) -> Run
     requires { bytes_of_word line ≤ length bytes.now }
-    ensures { result ≡ (Runs·taken before line bytes.now).run }
+    ensures { result ≡ (line_taken before line bytes.now).run }
 {
     let run = runs::ready(before, line);
     let phase = run.phase;

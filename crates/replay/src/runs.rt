@@ -1,6 +1,6 @@
 // A run of a script: what is kept from one line to the next.
 ghost use Rattle.std.specs.Prelude.{◌≡◌};
-ghost use Rattle.replay.specs.Runs.{following, fresh_run, made_run, ends_settings as Runs·endsSettings, ready_for, after_call as Runs·afterCall, next_line, site_with, settled as Runs·settled, renumbered as Runs·renumbered};
+ghost use Rattle.replay.specs.Runs.{following, fresh_run, made_run, ends_settings, ready_for, after_call, next_line, site_with, settled, renumbered};
 
 use crate::script::{Line, Setting};
 use conduct::Site;
@@ -69,7 +69,7 @@ fn made(run: Run) -> Run
 }
 
 fn ends_settings(line: Line) -> bool
-    ensures { result ≡ Runs·endsSettings line }
+    ensures { result ≡ ends_settings line }
 {
     match line {
         Line::Nothing => false,
@@ -95,7 +95,7 @@ pub(crate) fn ready(run: Run, line: Line) -> Run
 }
 
 pub(crate) fn after_call(run: Run, told: Told) -> Run
-    ensures { result ≡ Runs·afterCall run told }
+    ensures { result ≡ after_call run told }
 {
     let phase = run.phase;
     let site = run.site;
@@ -148,7 +148,7 @@ fn site_with(setting: Setting, site: Site) -> Site
 }
 
 pub(crate) fn settled(run: Run, setting: Setting) -> Run
-    ensures { result ≡ Runs·settled run setting }
+    ensures { result ≡ settled run setting }
 {
     let phase = run.phase;
     let site = run.site;
@@ -163,7 +163,7 @@ pub(crate) fn settled(run: Run, setting: Setting) -> Run
 }
 
 pub(crate) fn renumbered(run: Run, last: u32) -> Run
-    ensures { result ≡ Runs·renumbered run last }
+    ensures { result ≡ renumbered run last }
 {
     let phase = run.phase;
     let site = run.site;

@@ -1,7 +1,7 @@
 // A line of a script, and what it stands for.
 ghost use Rattle.std.specs.Prelude.{◌≡◌, ◌≤◌, length, drop};
 ghost use Rattle.conduct.specs.Lists.{all};
-ghost use Rattle.replay.specs.Script.{behind as Script·behind, is_word as Script·isWord, ticks_of, is_digit, is_decimal, figure_of, figure_behind, numbered_of, worded_of, line_of};
+ghost use Rattle.replay.specs.Script.{behind, is_word, ticks_of, is_digit, is_decimal, figure_of, figure_behind, numbered_of, worded_of, line_of};
 
 use conduct::{Call, Conduct, Pushed};
 use message::Number;
@@ -29,7 +29,7 @@ pub(crate) enum Line {
 }
 
 fn is_word(line: &[u8], word: &[u8]) -> bool
-    ensures { result ≡ Script·isWord word.now line.now }
+    ensures { result ≡ is_word word.now line.now }
 {
     if line.len() == word.len() {
         return texts::begins(line, word);
@@ -39,7 +39,7 @@ fn is_word(line: &[u8], word: &[u8]) -> bool
 
 // The number behind a word that ends with a space.
 fn behind(line: &[u8], word: &[u8]) -> Number
-    ensures { result ≡ Script·behind word.now line.now }
+    ensures { result ≡ behind word.now line.now }
 {
     if texts::begins(line, word) {
         return texts::number(line, word.len());

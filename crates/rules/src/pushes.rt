@@ -1,6 +1,6 @@
 // One open push.
 ghost use Rattle.std.specs.Prelude.{◌≡◌, ◌+◌, ◌≤◌};
-ghost use Rattle.conduct.specs.Pushes.{terms_of, event_of, older as Pushes·older, sent_again, is_response, may_go_again, again_or, fate_of};
+ghost use Rattle.conduct.specs.Pushes.{terms_of, event_of, older, sent_again, is_response, may_go_again, again_or, fate_of};
 ghost use Rattle.conduct.specs.Sound.{most_sendings, sound_push};
 ghost use Rattle.conduct.specs.declared.Sweep.TheVariants as sweeps;
 
@@ -29,7 +29,7 @@ fn event_of(code: u32, p: Push) -> Event
 
 fn older(p: Push, age: u32) -> Push
     requires { age ≡ p.age + 1 }
-    ensures { result ≡ Pushes·older p }
+    ensures { result ≡ older p }
 {
     let what = p.what;
     Push {

@@ -1,6 +1,6 @@
 // Which call fits which state.
 ghost use Rattle.std.specs.Prelude.{◌≡◌};
-ghost use Rattle.conduct.specs.Session.{is_connecting, is_linked, is_stopped, is_up, given_by_reader, fits as Session·fits, is_push};
+ghost use Rattle.conduct.specs.Session.{is_connecting, is_linked, is_stopped, is_up, given_by_reader, fits, is_push};
 ghost use Rattle.conduct.specs.declared.Call.TheVariants as variants;
 
 use conduct::{Call, State};
@@ -69,7 +69,7 @@ fn given_by_reader(refusal: u32) -> bool
 }
 
 fn fits_lost(state: State) -> bool
-    ensures { result ≡ Session·fits state variants.Lost }
+    ensures { result ≡ fits state variants.Lost }
 {
     if is_connecting(state) {
         return true;
@@ -78,7 +78,7 @@ fn fits_lost(state: State) -> bool
 }
 
 fn fits_unreadable(state: State, refusal: u32) -> bool
-    ensures { result ≡ Session·fits state (variants.Unreadable refusal) }
+    ensures { result ≡ fits state (variants.Unreadable refusal) }
 {
     if is_linked(state) {
         return given_by_reader(refusal);
@@ -87,7 +87,7 @@ fn fits_unreadable(state: State, refusal: u32) -> bool
 }
 
 pub fn fits(state: State, call: Call) -> bool
-    ensures { result ≡ Session·fits state call }
+    ensures { result ≡ fits state call }
 {
     match call {
         Call::Tick => !is_stopped(state),

@@ -1,7 +1,7 @@
 // One byte, and runs of bytes of a class.
 ghost use Rattle.std.specs.Prelude.{◌≡◌, ◌+◌, ◌≤◌, length};
 ghost use Rattle.message.specs.Class.{class_in, is_start, at_least, is_name, is_space};
-ghost use Rattle.message.specs.Reading.{is, has, one, ends, up_to, blanks as blanksAt, equals_at, opened_at, is_quote};
+ghost use Rattle.message.specs.Reading.{is, has, one, ends, up_to, blanks, equals_at, opened_at, is_quote};
 ghost use Rattle.scan.specs.Answers.{place_said};
 
 use crate::Place;
@@ -164,7 +164,7 @@ pub fn name_end(s: &[u8], table: &[u8; 256], at: usize) -> usize
 
 // The place behind the white space from a place on.
 pub fn blanks(s: &[u8], table: &[u8; 256], at: usize) -> usize
-    ensures { result ≡ blanksAt (class_in table.now) s.now at }
+    ensures { result ≡ blanks (class_in table.now) s.now at }
 {
     let mut i = at;
     while space_at(s, table, i) {

@@ -1,10 +1,10 @@
 // Any call: the refusals in their order, then what the call does.
 ghost use Rattle.std.specs.Prelude.{◌≡◌, true, ◌≤◌};
-ghost use Rattle.conduct.specs.Session.{fits as Session·fits, refusal_of, held as Session·held};
+ghost use Rattle.conduct.specs.Session.{fits, refusal_of, held as held_numbers};
 ghost use Rattle.conduct.specs.Rules.{move_of};
 ghost use Rattle.conduct.specs.Step.{answer};
 ghost use Rattle.session.specs.Record.{session_of, consistent};
-ghost use Rattle.session.specs.Answers.{refuse, told_of, told as Answers·told};
+ghost use Rattle.session.specs.Answers.{refuse, told_of, told};
 
 use crate::{Session, Told, consistency, holding, messages, tables, writing};
 use conduct::{Call, Move, Parting, Remark, State, codes};
@@ -34,8 +34,8 @@ fn refusal_of(s: Session, call: Call) -> u32
 
 // What an accepted call does, before the numbers are given.
 fn move_of(s: Session, held: &[u32], call: Call) -> Move
-    requires held_value { held.now ≡ Session·held (session_of s) }
-    requires call_value { Session·fits s.state call ≡ true }
+    requires held_value { held.now ≡ held_numbers (session_of s) }
+    requires call_value { fits s.state call ≡ true }
     ensures { result ≡ move_of (session_of s) call }
 {
     let state = s.state;
@@ -83,7 +83,7 @@ fn accepted(s: Session, call: Call) -> Told
 }
 
 pub(crate) fn told(s: Session, call: Call, places: usize) -> Told
-    ensures { result ≡ Answers·told places s call }
+    ensures { result ≡ told places s call }
 {
     if places < PLACES {
         return refused(s, 3);

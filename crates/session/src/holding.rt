@@ -1,6 +1,6 @@
 // The numbers that are held when a call begins.
 ghost use Rattle.std.specs.Prelude.{◌≡◌, ◌≤◌, take};
-ghost use Rattle.conduct.specs.Session.{awaited_numbers, session_ok_numbers, held as Session·held};
+ghost use Rattle.conduct.specs.Session.{awaited_numbers, session_ok_numbers, held};
 ghost use Rattle.session.specs.Record.{session_of};
 
 use crate::Session;
@@ -46,7 +46,7 @@ fn with_awaited(awaited: Awaited) -> Holding
 // The open SessionOk's number, if any, and then the open pushes' numbers.
 pub(crate) fn held(s: Session) -> Holding
     requires { s.pushes.count ≤ 32 }
-    ensures { (take result.count result.numbers ≡ Session·held (session_of s)) × (result.count ≤ 33) }
+    ensures { (take result.count result.numbers ≡ held (session_of s)) × (result.count ≤ 33) }
 {
     let table = s.pushes;
     let rows = table.rows;

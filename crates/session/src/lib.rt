@@ -14,9 +14,9 @@ mod writing;
 ghost use Rattle.std.specs.Prelude.{◌≡◌, length};
 ghost use Rattle.conduct.specs.declared.Call.TheVariants as variants;
 ghost use Rattle.conduct.specs.declared.Pushed.TheVariants as pushed;
-ghost use Rattle.conduct.specs.Session.{usual as Session·usual};
+ghost use Rattle.conduct.specs.Session.{usual};
 ghost use Rattle.session.specs.Record.{refused_of, made_of, with_last};
-ghost use Rattle.session.specs.Answers.{told as Answers·told, SaysAndWrites, call_of_bytes};
+ghost use Rattle.session.specs.Answers.{told, SaysAndWrites, call_of_bytes};
 
 use conduct::{Call, Conduct, Event, Push, Pushed, Site, State};
 use message::{Answer, Message};
@@ -70,7 +70,7 @@ pub struct Made {
 
 // The site of which only the interval is said: its conduct is the new one, and a Response is sent again once.
 pub fn usual(interval: u32) -> Site
-    ensures { result ≡ Session·usual interval }
+    ensures { result ≡ usual interval }
 {
     Site {
         interval,
@@ -121,66 +121,66 @@ fn refused_making(refusal: u32) -> Made
 impl Session {
     // Any call, for a host whose event list has so many places.
     pub fn told(self, call: Call, places: usize) -> Told
-        ensures { result ≡ Answers·told places self call }
+        ensures { result ≡ told places self call }
     {
         calls::told(self, call, places)
     }
 
     pub fn tick(self, places: usize) -> Told
-        ensures { result ≡ Answers·told places self variants.Tick }
+        ensures { result ≡ told places self variants.Tick }
     {
         self.told(Call::Tick, places)
     }
 
     // The link that event 1 asked for is there.
     pub fn connected(self, places: usize) -> Told
-        ensures { result ≡ Answers·told places self variants.Connected }
+        ensures { result ≡ told places self variants.Connected }
     {
         self.told(Call::Connected, places)
     }
 
     // The link is gone.
     pub fn lost(self, places: usize) -> Told
-        ensures { result ≡ Answers·told places self variants.Lost }
+        ensures { result ≡ told places self variants.Lost }
     {
         self.told(Call::Lost, places)
     }
 
     pub fn stop(self, places: usize) -> Told
-        ensures { result ≡ Answers·told places self variants.Stop }
+        ensures { result ≡ told places self variants.Stop }
     {
         self.told(Call::Stop, places)
     }
 
     // The host pushes a Response, or an Advisory.
     pub fn respond(self, handle: u32, places: usize) -> Told
-        ensures { result ≡ Answers·told places self (variants.Push pushed.Response handle) }
+        ensures { result ≡ told places self (variants.Push pushed.Response handle) }
     {
         self.told(Call::Push(Pushed::Response, handle), places)
     }
 
     pub fn advise(self, handle: u32, places: usize) -> Told
-        ensures { result ≡ Answers·told places self (variants.Push pushed.Advisory handle) }
+        ensures { result ≡ told places self (variants.Push pushed.Advisory handle) }
     {
         self.told(Call::Push(Pushed::Advisory, handle), places)
     }
 
     // A message that the reader has read, and the reader's refusal of one.
     pub fn heard(self, message: Message, places: usize) -> Told
-        ensures { result ≡ Answers·told places self (variants.Heard message) }
+        ensures { result ≡ told places self (variants.Heard message) }
     {
         self.told(Call::Heard(message), places)
     }
 
     pub fn unreadable(self, refusal: u32, places: usize) -> Told
-        ensures { result ≡ Answers·told places self (variants.Unreadable refusal) }
+        ensures { result ≡ told places self (variants.Unreadable refusal) }
     {
         self.told(Call::Unreadable(refusal), places)
     }
 
     // The bytes of a message: they are read, and what the reader answers is handed in.
     pub fn hear(self, message: &[u8], places: usize) -> Told
-        ensures { result ≡ Answers·told places self (call_of_bytes message.now) }
+        ensures { result ≡ told places self (call_of_bytes message.now) }
     {
         let said = reader::read(message);
         match said {
@@ -191,7 +191,7 @@ impl Session {
 
     // Any call, with its events written to the start of the list that the host lends.
     pub fn told_into(self, call: Call, list: &mut [Event]) -> Said
-        ensures { SaysAndWrites (Answers·told (length list.old) self call) list.old result list.new }
+        ensures { SaysAndWrites (told (length list.old) self call) list.old result list.new }
     {
         let told = self.told(call, list.len());
         let events = told.events;
@@ -207,7 +207,7 @@ impl Session {
 
     // The same for the bytes of a message.
     pub fn hear_into(self, message: &[u8], list: &mut [Event]) -> Said
-        ensures { SaysAndWrites (Answers·told (length list.old) self (call_of_bytes message.now)) list.old result list.new }
+        ensures { SaysAndWrites (told (length list.old) self (call_of_bytes message.now)) list.old result list.new }
     {
         let heard = self.hear(message, list.len());
         let events = heard.events;

@@ -1,7 +1,7 @@
 // Moves of a message, by the table of actions.
 ghost use Rattle.std.specs.Prelude.{◌≡◌, ◌<◌, true};
 ghost use Rattle.conduct.specs.Table.{action_at, action_of};
-ghost use Rattle.conduct.specs.Session.{is_linked, held as Session·held};
+ghost use Rattle.conduct.specs.Session.{is_linked, held as held_numbers};
 ghost use Rattle.conduct.specs.Rules as Rules;
 ghost use Rattle.session.specs.Record.{session_of};
 
@@ -50,7 +50,7 @@ pub(crate) fn action_at(row: usize, column: usize) -> Action
 
 // An Ok that names n. Here and below, `held` are the numbers that the session holds.
 fn ok_naming(s: Session, held: &[u32], n: u32) -> Move
-    requires { held.now ≡ Session·held (session_of s) }
+    requires { held.now ≡ held_numbers (session_of s) }
     ensures { result ≡ Rules.ok_naming (session_of s) n s.state }
 {
     let state = s.state;
@@ -79,7 +79,7 @@ fn ok_naming(s: Session, held: &[u32], n: u32) -> Move
 }
 
 fn acknowledged(s: Session, held: &[u32], number: Number) -> Move
-    requires { held.now ≡ Session·held (session_of s) }
+    requires { held.now ≡ held_numbers (session_of s) }
     ensures { result ≡ Rules.acknowledged (session_of s) number }
 {
     match number {
@@ -93,7 +93,7 @@ fn acknowledged(s: Session, held: &[u32], number: Number) -> Move
 
 // An Advisory that names n.
 fn advisory_naming(s: Session, held: &[u32], advice: Advice, n: u32) -> Move
-    requires { held.now ≡ Session·held (session_of s) }
+    requires { held.now ≡ held_numbers (session_of s) }
     ensures { result ≡ Rules.advisory_naming (session_of s) advice n s.state }
 {
     let state = s.state;
@@ -125,7 +125,7 @@ fn advisory_naming(s: Session, held: &[u32], advice: Advice, n: u32) -> Move
 }
 
 fn advised_about(s: Session, held: &[u32], advice: Advice, number: Number) -> Move
-    requires { held.now ≡ Session·held (session_of s) }
+    requires { held.now ≡ held_numbers (session_of s) }
     ensures { result ≡ Rules.advised_about (session_of s) advice number }
 {
     match number {
@@ -138,7 +138,7 @@ fn advised_about(s: Session, held: &[u32], advice: Advice, number: Number) -> Mo
 }
 
 fn advised(s: Session, held: &[u32], m: Message) -> Move
-    requires { held.now ≡ Session·held (session_of s) }
+    requires { held.now ≡ held_numbers (session_of s) }
     ensures { result ≡ Rules.advised (session_of s) m }
 {
     let value = m.in_relation_to;
@@ -151,7 +151,7 @@ fn advised(s: Session, held: &[u32], m: Message) -> Move
 }
 
 fn acted(s: Session, held: &[u32], m: Message, action: Action) -> Move
-    requires { held.now ≡ Session·held (session_of s) }
+    requires { held.now ≡ held_numbers (session_of s) }
     ensures { result ≡ Rules.acted (session_of s) m action }
 {
     let state = s.state;
@@ -173,7 +173,7 @@ fn acted(s: Session, held: &[u32], m: Message, action: Action) -> Move
 
 // A message, in a linked state.
 pub(crate) fn heard(s: Session, held: &[u32], m: Message) -> Move
-    requires held_value { held.now ≡ Session·held (session_of s) }
+    requires held_value { held.now ≡ held_numbers (session_of s) }
     requires state_value { is_linked s.state ≡ true }
     ensures { result ≡ Rules.acted (session_of s) m (action_of s.state m.kind) }
 {

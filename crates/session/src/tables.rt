@@ -2,7 +2,7 @@
 ghost use Rattle.std.specs.Prelude.{◌≡◌, ◌++◌, ◌∷◌, [], ◌≤◌, ◌<◌, drop};
 ghost use Rattle.conduct.specs.Lists.{all};
 ghost use Rattle.conduct.specs.Sound.{sound_push};
-ghost use Rattle.session.specs.Rows.{Packed, table_of, rows_of, is_blank as Rows·isBlank};
+ghost use Rattle.session.specs.Rows.{Packed, table_of, rows_of, is_blank};
 
 use crate::Table;
 use conduct::{Push, Pushed, Terms};
@@ -28,7 +28,7 @@ pub(crate) fn empty() -> Table
 
 // A row behind the count.
 fn is_blank(p: Push) -> bool
-    ensures { result ≡ Rows·isBlank p }
+    ensures { result ≡ is_blank p }
 {
     let what = p.what;
     if !pushes::is_response(what) {
@@ -62,7 +62,7 @@ impl Table {
     // Whether every row from the count on is blank.
     pub(crate) fn is_blank_after(self) -> bool
         requires { self.count ≤ 32 }
-        ensures { result ≡ all Rows·isBlank (drop self.count self.rows) }
+        ensures { result ≡ all is_blank (drop self.count self.rows) }
     {
         let rows = self.rows;
         let mut i = self.count;

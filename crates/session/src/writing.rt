@@ -1,7 +1,7 @@
 // The list of a call's events, and what an accepted call does to the session while it is written.
 ghost use Rattle.std.specs.Prelude.{◌≡◌, ◌++◌, ◌∷◌, [], ◌+◌, ◌≤◌, ◌<◌, length};
-ghost use Rattle.conduct.specs.Codes.{sending as Codes·sending};
-ghost use Rattle.conduct.specs.Session.{held as Session·held};
+ghost use Rattle.conduct.specs.Codes.{sending};
+ghost use Rattle.conduct.specs.Session.{held as held_numbers};
 ghost use Rattle.conduct.specs.Step.{noted as note, parting_notes, opens, moved_by, events_by};
 ghost use Rattle.session.specs.Rows.{Packed, rows_of, Listed, events_of, list_of};
 ghost use Rattle.session.specs.Record.{session_of};
@@ -165,7 +165,7 @@ fn sweep_all(terms: Terms, before: Table, sweep: Sweep, said: Events) -> Swept
 }
 
 fn sending(what: Pushed) -> u32
-    ensures { result ≡ Codes·sending what }
+    ensures { result ≡ sending what }
 {
     match what {
         Pushed::Response => codes::SEND_RESPONSE,
@@ -208,7 +208,7 @@ fn remark_all(held: &[u32], made: Swept, last: u32, remark: Remark) -> Remarked
 // What an accepted call does: its move, with the numbers given. `held` are the numbers that the session holds.
 pub(crate) fn perform(s: Session, held: &[u32], m: Move) -> Performed
     requires remark_bound { s.pushes.count + length (opens 0 m.remark) ≤ 32 }
-    requires held_value { held.now ≡ Session·held (session_of s) }
+    requires held_value { held.now ≡ held_numbers (session_of s) }
     ensures { result ≡ performed_of (moved_by (session_of s) m) (events_by (session_of s) m) }
 {
     let to = m.to;

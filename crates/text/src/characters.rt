@@ -1,15 +1,15 @@
 // Characters of more than one byte, in UTF-8.
 ghost use Rattle.std.specs.Prelude.{◌≡◌, ◌<◌, ◌≤◌, true, cond, ◌&&◌, eqb};
-ghost use Rattle.message.specs.Class.{between as isBetween};
+ghost use Rattle.message.specs.Class.{between};
 ghost use Rattle.message.specs.Reading.{has, one};
-ghost use Rattle.message.specs.Characters.{joined as joinedTo, two_at, three_at, last_two_at, four_at, long_at};
+ghost use Rattle.message.specs.Characters.{joined, two_at, three_at, last_two_at, four_at, long_at};
 ghost use Rattle.scan.specs.Answers.{place_said, character_said};
 
 use scan::{Character, Place};
 
 // A byte from `low` to `high` stands at the place.
 pub fn between_at(s: &[u8], at: usize, low: u8, high: u8) -> bool
-    ensures { result ≡ has (isBetween low high) s.now at }
+    ensures { result ≡ has (between low high) s.now at }
 {
     if at < s.len() {
         let b = s[at];
@@ -21,7 +21,7 @@ pub fn between_at(s: &[u8], at: usize, low: u8, high: u8) -> bool
 
 // Reads a byte from `low` to `high`.
 pub fn between(s: &[u8], at: usize, low: u8, high: u8) -> Place
-    ensures { place_said result ≡ one (isBetween low high) s.now at }
+    ensures { place_said result ≡ one (between low high) s.now at }
 {
     if between_at(s, at, low, high) {
         Place::Whole(at + 1)
@@ -34,14 +34,14 @@ pub fn between(s: &[u8], at: usize, low: u8, high: u8) -> Place
 fn joined(high: u32, b: u8) -> u32
     requires high_bound { high < 67108863 }
     requires le_b { 128 ≤ b }
-    ensures { result ≡ joinedTo high b }
+    ensures { result ≡ joined high b }
 {
     high * 64 + (b as u32 - 128)
 }
 
 // Reads a character of two bytes, the first of which is known to begin one. So does the next for three bytes.
 fn two(s: &[u8], at: usize) -> Character
-    requires { has (isBetween 194 223) s.now at ≡ true }
+    requires { has (between 194 223) s.now at ≡ true }
     ensures { character_said result ≡ two_at s.now at }
 {
     let r = between(s, at + 1, 128, 191);
@@ -52,7 +52,7 @@ fn two(s: &[u8], at: usize) -> Character
 }
 
 fn three(s: &[u8], at: usize) -> Character
-    requires { has (isBetween 224 239) s.now at ≡ true }
+    requires { has (between 224 239) s.now at ≡ true }
     ensures { character_said result ≡ three_at s.now at }
 {
     let lead = s[at];

@@ -2,14 +2,14 @@
 ghost use Rattle.std.specs.Prelude.{◌≡◌};
 ghost use Rattle.message.specs.Class.{class_in};
 ghost use Rattle.message.specs.Reading.{closed_at};
-ghost use Rattle.message.specs.Markup.{declares as declaresIt, utf8_at, encoding_at, declaration_at};
+ghost use Rattle.message.specs.Markup.{declares, utf8_at, encoding_at, declaration_at};
 ghost use Rattle.scan.specs.Answers.{place_said};
 
 use scan::{Place, bytes, words};
 
 // The message begins with `<?xml` and white space.
 pub fn declares(s: &[u8], table: &[u8; 256]) -> bool
-    ensures { result ≡ declaresIt (class_in table.now) s.now }
+    ensures { result ≡ declares (class_in table.now) s.now }
 {
     if words::spells(s, 0, b"<?xml") {
         bytes::space_at(s, table, 5)

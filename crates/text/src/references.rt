@@ -1,7 +1,7 @@
 // References: the five predefined ones, and numbers of characters.
 ghost use Rattle.std.specs.Prelude.{◌≡◌, true, suc, ◌≤◌, length};
 ghost use Rattle.message.specs.Reading.{has, one};
-ghost use Rattle.message.specs.Characters.{legal as isLegal, digit_of, is_digit, digits_at, closes, numbered_at, stands_at, predefined_at, reference_at};
+ghost use Rattle.message.specs.Characters.{legal, digit_of, is_digit, digits_at, closes, numbered_at, stands_at, predefined_at, reference_at};
 ghost use Rattle.scan.specs.Answers.{place_said, character_said};
 
 use scan::{Character, Place, bytes, words};
@@ -10,7 +10,7 @@ const LAST_CHARACTER: u32 = 1114111;
 
 // The number is one of a legal character.
 pub fn legal(code: u32) -> bool
-    ensures { result ≡ isLegal code }
+    ensures { result ≡ legal code }
 {
     if code < 32 {
         if code == 9 {

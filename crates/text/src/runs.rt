@@ -2,7 +2,7 @@
 ghost use Rattle.std.specs.Prelude.{◌≡◌, true, length};
 ghost use Rattle.message.specs.Class.{class_in, is_plain, is_plain_note};
 ghost use Rattle.message.specs.Reading.{is, has, ends};
-ghost use Rattle.message.specs.Text.{behind as behindOf, special_at, bracket_at, beyond_plain_in_at, beyond_plain_at, beyond_note_at, hyphens_at, text_at, value_at, comment_at};
+ghost use Rattle.message.specs.Text.{behind, special_at, bracket_at, beyond_plain_in_at, beyond_plain_at, beyond_note_at, hyphens_at, text_at, value_at, comment_at};
 ghost use Rattle.scan.specs.Answers.{place_said, character_said};
 
 use crate::{characters, references};
@@ -91,7 +91,7 @@ fn beyond_plain_in(s: &[u8], table: &[u8; 256], at: usize) -> Place
 
 // The place behind a character.
 fn behind(c: Character) -> Place
-    ensures { place_said result ≡ behindOf (character_said c) }
+    ensures { place_said result ≡ behind (character_said c) }
 {
     match c {
         Character::Whole(end, _) => Place::Whole(end),
