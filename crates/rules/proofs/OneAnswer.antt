@@ -1,5 +1,5 @@
 -- THEOREMS: the contract of each public function of this crate has one answer. Assumes nothing.
-use Rattle.std.proofs.Common.{◌≡◌, ℕ, Bool, ◌||◌, eqb, List}
+use Rattle.std.proofs.Common.{◌≡◌, ℕ, Bool, ◌||◌, ◌==◌, List}
 use Rattle.laws.proofs.OneAnswer.{one_answer}
 use Rattle.message.specs.declared.Advice.{Advice}
 use Rattle.message.specs.declared.Number.{Number}
@@ -96,7 +96,7 @@ module _ {r r' : Bool} where
   pub is_state_sound_once : (interval : ℕ) (state : State) → r ≡ sound_state interval state → r' ≡ sound_state interval state → r ≡ r'
   is_state_sound_once interval state = one_answer
 
-  pub is_count_sound_once : (state : State) (count : ℕ) → r ≡ (is_up state || eqb count 0) → r' ≡ (is_up state || eqb count 0) → r ≡ r'
+  pub is_count_sound_once : (state : State) (count : ℕ) → r ≡ (is_up state || count == 0) → r' ≡ (is_up state || count == 0) → r ≡ r'
   is_count_sound_once state count = one_answer
 
 -- ---- one open push
