@@ -73,9 +73,9 @@ pub(crate) fn next(
     held: Held,
     out: &mut [u8],
 ) -> Turn
-    requires in_bounds { 65536 ≤ length store.old }
+    requires store_in_bounds { 65536 ≤ length store.old }
     requires number_bound { held.number < 18446744073709551615 }
-    requires in_bounds_2 { 128 ≤ length out.old }
+    requires line_in_bounds { 128 ≤ length out.old }
     ensures prefix_len { IsPrefixLen result.length out.new }
     ensures within { result.taken ≤ length piece.now }
     ensures turned { result ≡ turn_of boundary.now store.old piece.now held }
