@@ -21,7 +21,7 @@ AT = re.compile(r"^at: (\S+) (\S+)$", re.MULTILINE)
 ERROR = re.compile(r"((?:src|specs|proofs)/\S+?):\d+:\d+: error: `([^`]+)`: (.*)")
 UNPROVED = re.compile(r"^fn (\S+): (?:not proved|no proof).*?`search` did not prove ([^;\n]*)", re.MULTILINE)
 FOLLOWS = re.compile(r"was not admitted|was rejected|not checked")
-UNFIT = re.compile(r"that can be named from here|has no field `|is not in scope")
+UNFIT = re.compile(r": error: .*(?:that can be named from here|has no field `|is not in scope)")
 OF_THE_CODE = re.compile(r"::|^proofs/.+/(?:Answers|Invariants|Proof)\.antt$")
 
 
