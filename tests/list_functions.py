@@ -21,8 +21,8 @@ HEAD = """# Every public function and what determines it
 `python3 tests/list_functions.py --write` makes this page from the sources, and the gate holds it to them ([list_functions.py](../tests/list_functions.py)).
 No function here has a `requires`. An equation is of the `result` or of what is left of something that was lent (`x.new`), and has on
 its other side only what went in, so by one law, [`one_answer`](../crates/laws/proofs/OneAnswer.antt), no second result fits; the law in the last column says so of
-the function itself, in the words of its contract ([check_answers.py](../tests/check_answers.py)). An equation has the names of its source file, which may
-take a definition under another name (`Answers·told` is `told`); the column beside it has the definition's own. Functions that are not determined stand in [EXCEPTIONS](EXCEPTIONS.md).
+the function itself, in the words of its contract ([check_answers.py](../tests/check_answers.py)). An equation has the names of its source file; the column beside it has
+the definitions. Functions that are not determined stand in [EXCEPTIONS](EXCEPTIONS.md).
 Wrong versions are in [DEMANDS](DEMANDS.md).
 """
 

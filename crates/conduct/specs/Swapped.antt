@@ -26,7 +26,7 @@ pub record Names (c : Call) (n : ℕ) : Type 0 where
   pub bearing : Bearing
   pub bears : message_bearing n message message.kind ≡ bearing ∷ []
 
--- Its bearing is unreadableMessage where its advisoryType is there and is UnreadableMessage, and only there.
+-- Its bearing is unreadable_message where its advisoryType is there and is UnreadableMessage, and only there.
 abbrev pub UnreadableByItsType : Type 0
 UnreadableByItsType =
     (m : Message)

@@ -223,7 +223,7 @@ fn list_input<R: Read, W: Write>(input: &mut R, output: &mut W, first: &[u8], fa
     }
 }
 
-// The program has no exit status: what failed shows by the last line, which is not there.
+// The exit status is always 0: what failed shows by the last line, which is not there.
 fn main(rt: HostRuntime) {
     let mut input = rt.stdin();
     let mut output = rt.stdout();

@@ -264,7 +264,7 @@ fn finish<W: Write>(output: &mut Output<W>, store: &[u8], held: Held)
     output.write(&out[..length]);
 }
 
-// The program has no exit status: what failed shows by the last line, which is not there.
+// The exit status is always 0: what failed shows by the last line, which is not there.
 fn main(rt: HostRuntime) {
     let mut input = rt.stdin();
     let mut output = Output::new(rt.stdout());
