@@ -12,6 +12,7 @@ use scan::{Place, bytes};
 use text::{declaration, markup};
 
 // Nothing more stands at the place.
+#[tactic(auto, unfolding(message::specs::Elements::end_at))]
 fn end(s: &[u8], at: usize) -> Place
     ensures { place_said result ≡ end_at s.now at }
 {
@@ -62,6 +63,7 @@ fn begin(s: &[u8], table: &[u8; 256], at: usize) -> Place
 }
 
 // Reads a message from a place on: its root.
+#[tactic(auto, unfolding(message::specs::Elements::document_at))]
 pub fn document(s: &[u8], table: &[u8; 256], at: usize) -> Told
     ensures { told_said result ≡ seen s.now (document_at (class_in table.now) s.now link_limits at) }
 {

@@ -1,4 +1,4 @@
--- One call: what holds of every cut of a piece, and which case of the answer and of the store a refused call and another one are. Assumes nothing.
+-- One call: what holds of every cut of a piece, and which case of the answer and of the store a call is that is not refused. Assumes nothing.
 use mathlib.Core.Path.{◌≡◌, refl, sym}
 use mathlib.Core.Bool.{Bool, true, false, cond}
 use mathlib.Core.List.{List, ◌++◌}
@@ -7,13 +7,13 @@ use native.Mathlib.Omega.{arith}
 use lib.ListN.{length, take, length-append, length-take}
 use lib.Seq.{paste}
 use lib.Dec.{leb}
-use borrow.Author.Tests.{leb-true, eq-eqb, ne_eqb}
+use borrow.Author.Tests.{leb-true, eq-eqb}
 use Rattle.laws.specs.Bytes.{ends_with}
 use Rattle.laws.proofs.Tests.{true_false}
 use Rattle.laws.proofs.Search.{least_passes}
 use Rattle.laws.proofs.Tails.{ends_shorter, ends_of_test}
 use Rattle.framing.specs.declared.Cut.{Cut}
-use Rattle.framing.specs.Cutting.{item_end, longest_match, cut_over, cut_of, refusal_of, refused_with, answered, answer_of, kept, store_after}
+use Rattle.framing.specs.Cutting.{item_end, longest_match, cut_over, cut_of, refusal_of, answered, answer_of, kept, store_after}
 use Rattle.framing.proofs.Matcher.{longest_ends, longest_below}
 
 -- No more is taken than there is, less than a boundary is matched after it and no more than what was matched and taken, and an item is no
@@ -63,10 +63,6 @@ answered_keeps limit k g c = go c.ended refl
     go false e = (rw e, rw e)
 
 module _ (limit : ℕ) (b s p : List ℕ) (g m number : ℕ) (is : number ≡ refusal_of limit (length b) (length s) g m) where
-  pub when_refused : (number ≡ 0 → ⊥) → (refused_with number g m ≡ answer_of limit b s p g m) × (s ≡ store_after limit b s p g m)
-  unfolding answer_of store_after
-  when_refused some = (rw (← is, ne_eqb number 0 some), rw (← is, ne_eqb number 0 some))
-
   pub when_taken : number ≡ 0
       → (answered limit (length b) g (cut_of b p m) ≡ answer_of limit b s p g m)
       × (paste s g p (kept limit (length b) g (cut_of b p m).taken) ≡ store_after limit b s p g m)

@@ -1,5 +1,5 @@
 -- How a piece is cut where the boundary is looked for whole: `cut_found` and `cut_nowhere` by the first place at which it stands, where nothing is held; `seam_ended`
--- and `seam_passed` where a match is held, by the piece's first bytes alone. Assumes nothing.
+-- and `seam_nowhere` where a match is held, by the piece's first bytes alone. Assumes nothing.
 use mathlib.Core.Path.{◌≡◌, refl, sym, ap, ◌∙◌}
 use mathlib.Core.Bool.{Bool, true, false, cond}
 use mathlib.Core.List.{List, ◌++◌}
@@ -106,7 +106,7 @@ module _ (b p : List ℕ) (m : ℕ) (held : m < length b) (j : ℕ) (within : j 
       rw (is, end, le-leb (item_end b v) (length w) (omega (arith, size_front, size_whole)))
 
   -- and where none does, none ends in the whole piece so early
-  pub seam_free : (cut_of b (take j p) m).ended ≡ false → (e : ℕ) → e ≤ m + j → ends_with b (take e (take m b ++ p)) ≡ false
+  seam_free : (cut_of b (take j p) m).ended ≡ false → (e : ℕ) → e ≤ m + j → ends_with b (take e (take m b ++ p)) ≡ false
   unfolding cut_of cut_over item_end
   seam_free free e low =
       let v = take m b ++ take j p in
@@ -146,9 +146,13 @@ module _ (b p : List ℕ) (m : ℕ) (held : m < length b) (room : length b ≤ l
       greatest_same (λ j. ends_with (take j b) p) (λ j. ends_with (take j b) (take m b ++ p)) (length b)
       (λ j below. sym (tail_alone (take j b) (take m b) p (simp length-take (omega arith))))
 
-  pub seam_passed : cut_of b p 0 ≡ cut_of b p m
+  seam_passed : cut_of b p 0 ≡ cut_of b p m
   unfolding cut_of cut_into item_end into
   seam_passed =
       cut_at b p p 0 into (sym (zero-add into)) (omega arith)
       ∙ ap (λ (n : ℕ). cond {A = Cut} (leb into (length p)) (record { ended = true; taken = into; matched = 0 }) (record { ended = false; taken = length p; matched = n })) longest_alone
       ∙ sym (cut_at b p (take m b ++ p) m into end_held (omega (arith, length-append (take m b) p, length_held b p m held)))
+
+-- where no item ends within the piece's first k - 1 bytes, it is cut as with nothing held
+pub seam_nowhere : (b p : List ℕ) (m : ℕ) → m < length b → length b ≤ length p → (cut_of b (take (length b - 1) p) m).ended ≡ false → cut_of b p 0 ≡ cut_of b p m
+seam_nowhere b p m held room free = seam_passed b p m held room (seam_free b p m held (length b - 1) (omega arith) free)

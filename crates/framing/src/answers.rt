@@ -5,6 +5,7 @@ ghost use Rattle.framing.specs.Cutting.{refusal_of, refused_with, count_after, i
 use crate::{Answer, Cut, Item, MOST_BOUNDARY, MOST_COUNT};
 
 // The number of the refusal, and 0 for none: `size` and `room` are the lengths of the boundary and the store.
+#[tactic(auto, unfolding(crate::specs::Cutting::refusal_of))]
 pub(crate) fn refusal(limit: u32, size: usize, room: usize, gathered: u32, matched: u32) -> u32
     ensures { result ≡ refusal_of limit size room gathered matched }
 {
@@ -50,6 +51,7 @@ fn count(gathered: u32, taken: usize) -> u32
 }
 
 // The item of `count` gathered bytes, of which the last `size` are the boundary.
+#[tactic(auto, unfolding(crate::specs::Cutting::item_of))]
 fn completed(limit: u32, size: u32, count: u32) -> Item
     requires { size ≤ count }
     ensures { result ≡ item_of limit size count }

@@ -95,6 +95,7 @@ pub fn gather(
 }
 
 // The same for a message of at most `limit` bytes.
+#[tactic(auto, unfolding(crate::specs::Cutting::answer_of, crate::specs::Cutting::store_after))]
 fn gather_within(
     limit: u32,
     boundary: &[u8],

@@ -3,35 +3,26 @@
 use mathlib.Core.Path.{sym, ◌∙◌}
 use native.Mathlib.Omega.{arith}
 use Rattle.framing.proofs.Refusals.{accepted}
-use Rattle.framing.proofs.Call.{cut_fits, when_refused, when_taken}
+use Rattle.framing.proofs.Call.{cut_fits, when_taken}
 use Rattle.framing.proofs.gather_within.Goals as goal
-
-pub returns-then-refusal-ne0 : goal.returns-then-refusal-ne0
-returns-then-refusal-ne0 c =
-    let a = c.args in
-    let number = c.refusal-refusal in
-    let said =
-    when_refused a.limit a.boundary.now a.store.now a.piece.now a.gathered a.matched number.result number.ensures
-    c.if-refusal-ne0.true in
-    record { answer = c.refused.ensures ∙ said.0; store = said.1 }
 
 pub cut_piece-cut-requires : goal.cut_piece-cut-requires
 cut_piece-cut-requires c =
-    let ok = accepted _ _ _ _ _ (sym c.refusal-refusal.ensures ∙ c.if-refusal-ne0.false) in
+    let ok = accepted _ _ _ _ _ (sym c.refusal-refusal.ensures ∙ omega arith) in
     (ok.below, ok.few)
 
 pub kept-kept-requires : goal.kept-kept-requires
-kept-kept-requires c = (accepted _ _ _ _ _ (sym c.refusal-refusal.ensures ∙ c.if-refusal-ne0.false)).few
+kept-kept-requires c = (accepted _ _ _ _ _ (sym c.refusal-refusal.ensures ∙ omega arith)).few
 
 pub lay-requires : goal.lay-requires
 lay-requires c =
-    let ok = accepted _ _ _ _ _ (sym c.refusal-refusal.ensures ∙ c.if-refusal-ne0.false) in
+    let ok = accepted _ _ _ _ _ (sym c.refusal-refusal.ensures ∙ omega arith) in
     let fit = rw (← c.cut_piece-cut.ensures) at (cut_fits c.args.boundary.now c.args.piece.now c.args.matched ok.below) in
     omega (arith, c.kept-kept.ensures)
 
 pub of_cut-requires : goal.of_cut-requires
 of_cut-requires c =
-    let ok = accepted _ _ _ _ _ (sym c.refusal-refusal.ensures ∙ c.if-refusal-ne0.false) in
+    let ok = accepted _ _ _ _ _ (sym c.refusal-refusal.ensures ∙ omega arith) in
     let fit = rw (← c.cut_piece-cut.ensures) at (cut_fits c.args.boundary.now c.args.piece.now c.args.matched ok.below) in
     record { boundary_fits = ok.few; match_fits = omega arith; end_behind_boundary = λ ended. omega (arith, fit.whole ended) }
 
@@ -41,7 +32,7 @@ returns c =
     let a = c.args in
     let said =
     when_taken a.limit a.boundary.now a.store.now a.piece.now a.gathered a.matched number.result number.ensures
-    c.if-refusal-ne0.false in
+    (omega arith) in
     record {
       answer = rw c.cut_piece-cut.ensures at c.of_cut.ensures ∙ said.0;
       store = rw (c.kept-kept.ensures, c.cut_piece-cut.ensures) at c.lay.ensures ∙ said.1;

@@ -12,7 +12,7 @@ pub returns-then-piece-at : goal.returns-then-piece-at
 returns-then-piece-at c =
     let a = c.args in
     let i = c.loop-i.i in
-    sym (one_other a.boundary.now 0 a.piece.now a.at a.count i (search rules) (λ same. c.if-piece-at.true (rw zero-add at same)))
+    sym (one_other a.boundary.now 0 a.piece.now a.at a.count i (search rules) (λ same. let here = rw zero-add at same in omega arith))
 
 pub returns : goal.returns
 returns c =
