@@ -1,3 +1,2 @@
--- `Searching` has the laws of the search for a free number, `OneAnswer` the theorems that no contract has a second answer.
-pub mod Searching
+-- `OneAnswer` has the theorems that no contract has a second answer.
 pub mod OneAnswer

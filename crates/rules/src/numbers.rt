@@ -32,6 +32,7 @@ pub fn all_differ(numbers: &[u32]) -> bool
 }
 
 // The next number after the last one taken that is not held.
+#[tactic(auto, unfolding(conduct::specs::Numbers::next_free))]
 pub fn next_free(numbers: &[u32], last: u32) -> u32
     ensures { result ≡ next_free numbers.now last }
 {
