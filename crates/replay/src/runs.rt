@@ -49,6 +49,7 @@ pub(crate) fn fresh() -> Run
     }
 }
 
+#[tactic(auto, unfolding(crate::specs::Runs::made_run))]
 fn made(run: Run) -> Run
     ensures { result ≡ made_run run }
 {

@@ -74,6 +74,7 @@ fn is_decimal(line: &[u8], from: usize) -> bool
     all_digits(line, from)
 }
 
+#[tactic(auto, using(crate::proofs::Digits::above_digits))]
 fn all_digits(line: &[u8], from: usize) -> bool
     requires { from ≤ length line.now }
     ensures { result ≡ all is_digit (drop from line.now) }

@@ -4,7 +4,7 @@ use mathlib.Core.Path.{refl, sym, ◌∙◌}
 use native.Mathlib.Omega.{arith}
 use Rattle.conduct.proofs.Loops.{all_end}
 use Rattle.replay.specs.Script.{is_digit}
-use Rattle.replay.proofs.Digits.{below_digits, above_digits, next_digit}
+use Rattle.replay.proofs.Digits.{below_digits, next_digit}
 use Rattle.replay.proofs.script.all_digits.Goals as goal
 
 pub loop-i-init : goal.loop-i-init
@@ -14,11 +14,6 @@ pub returns-then-line-i-lt48 : goal.returns-then-line-i-lt48
 returns-then-line-i-lt48 c =
     let l = c.loop-i in
     below_digits c.args.line.now l.i (omega arith) c.if-line-i-lt48.true ∙ l.invariant.1
-
-pub returns-then-line-i-gt57 : goal.returns-then-line-i-gt57
-returns-then-line-i-gt57 c =
-    let l = c.loop-i in
-    above_digits c.args.line.now l.i (omega arith) c.if-line-i-gt57.true ∙ l.invariant.1
 
 pub loop-i-preserved : goal.loop-i-preserved
 loop-i-preserved c =
