@@ -1,11 +1,11 @@
--- The three cases of a call of `ali_gather`, for its proof: a list that is too short, a call that the framing refuses, and one that it answers.
+-- Two cases of a call of `ali_gather`, for its proof: a list that is too short, and a call that the framing answers.
 -- Assumes nothing.
 use mathlib.Core.Path.{◌≡◌, sym, ap, ◌∙◌}
 use mathlib.Core.Bool.{true, false}
 use mathlib.Core.List.{List}
 use Prim.Native.Nat.{ℕ}
 use lib.ListN.{length}
-use borrow.Author.Tests.{eq-eqb, ne_eqb}
+use borrow.Author.Tests.{eq-eqb}
 use Rattle.framing.specs.declared.Answer.{Answer}
 use Rattle.framing.specs.Cutting.{link_limit, refusal_of, answer_of, store_after}
 use Rattle.framing.proofs.Unchanged.{answer_refusal}
@@ -21,12 +21,6 @@ module _ (b s p : List ℕ) (g m : ℕ) (a : List ℕ) where
   module _ (t : too_short a ≡ false) (r : Answer) (is : r ≡ answer_of link_limit b s p g m) (s' : List ℕ) (left : s' ≡ store_after link_limit b s p g m) where
     refusal_is : r.refusal ≡ refusal_of link_limit (length b) (length s) g m
     refusal_is = ap (λ (x : Answer). x.refusal) is ∙ answer_refusal link_limit b s p g m
-
-    pub call_refused : (r.refusal ≡ 0 → ⊥)
-        → (r.refusal ≡ gather_refusal b s g m a) × ((s' ≡ gather_store b s p g m a) × (a ≡ gather_list b s p g m a))
-    unfolding gather_refusal gather_store gather_list
-    call_refused some =
-        (rw t refusal_is, (rw t left, rw (t, ← refusal_is, ne_eqb r.refusal 0 some)))
 
     pub call_answered : r.refusal ≡ 0
         → (0 ≡ gather_refusal b s g m a) × ((s' ≡ gather_store b s p g m a) × (written (answer_numbers r) a ≡ gather_list b s p g m a))

@@ -6,6 +6,7 @@ use crate::lists;
 
 // Returns 0, or the number of the refusal; a refused call writes nothing anywhere. Otherwise the bytes taken, the item's number, a
 // message's length and the two numbers to hold stand at the start of `answer`.
+#[tactic(auto, using(framing::proofs::Unchanged::answer_refusal), unfolding(crate::specs::Gather::gather_refusal, crate::specs::Gather::gather_store, crate::specs::Gather::gather_list))]
 #[unsafe(no_mangle)]
 pub extern "C" fn ali_gather(
     boundary: &[u8],

