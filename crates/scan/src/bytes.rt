@@ -140,6 +140,7 @@ fn last_end(s: &[u8], table: &[u8; 256], at: usize, least: u8) -> usize
 }
 
 // The same by fours, as long as four are left: most of the time goes into runs of them.
+#[tactic(auto, using(message::proofs::Laws::up_some))]
 pub fn run_end(s: &[u8], table: &[u8; 256], at: usize, least: u8) -> usize
     ensures { result ≡ ends (at_least (class_in table.now) least) s.now at }
 {

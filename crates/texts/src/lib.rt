@@ -108,6 +108,7 @@ pub fn begins(text: &[u8], word: &[u8]) -> bool
 }
 
 // The number that a text has from a place on to its end, in decimal without leading zeros.
+#[tactic(auto, using(crate::proofs::Numbers::no_digits, crate::proofs::Numbers::zero_first, crate::proofs::Numbers::no_zero_first))]
 pub fn number(text: &[u8], from: usize) -> Number
     ensures { result ≡ decimal_of (drop from text.now) }
 {
@@ -132,6 +133,7 @@ fn zero_alone(length: usize) -> Number
 }
 
 // The number of the digits from a place on.
+#[tactic(auto, using(crate::proofs::Numbers::below_digits, crate::proofs::Numbers::above_digits, crate::proofs::Numbers::too_large, crate::proofs::Numbers::next_digit, crate::proofs::Numbers::no_more_digits))]
 fn digits(text: &[u8], from: usize) -> Number
     requires { from ≤ length text.now }
     ensures { result ≡ decimal_from 0 (drop from text.now) }

@@ -167,12 +167,27 @@ module _ {n : ℕ} {reads : ℕ → ℕ → Reading (List ℕ)} {answer : Number
     pub counted_none : between 48 57 code ≡ false → Nothing ≡ answer
     counted_none h = judged_done counted (λ fuel. ap (number_from m) (goes fuel) ∙ no_digit m code h (reads fuel e))
 
-    pub counted_large : 48 ≤ code → code ≤ 57 → 4294967295 < m * 10 + (code - 48) → Nothing ≡ answer
-    counted_large low high h = judged_done counted (λ fuel. ap (number_from m) (goes fuel) ∙ too_large m code low high h (reads fuel e))
-
     pub counted_digit : 48 ≤ code → code ≤ 57 → m * 10 + (code - 48) ≤ 4294967295 → (at < e) × (e ≤ n) → Judged number_from n reads answer (m * 10 + (code - 48)) e
     counted_digit low high h further =
         judged_on counted (m * 10 + (code - 48)) further (λ fuel. ap (number_from m) (goes fuel) ∙ next_digit m code low high h (reads fuel e))
+
+-- the number of a letter, and 0 of what is none
+abbrev pub number_of_letter : Reading Character → ℕ
+number_of_letter (whole c) = c.code
+number_of_letter (refused number place) = 0
+
+-- the next letter, where the number with it is too large
+pub large_letter : (class : ℕ → ℕ) (s : List ℕ) (to at m fuel : ℕ) → at < to
+    → 48 ≤ number_of_letter (attribute_letter_at class s at) → number_of_letter (attribute_letter_at class s at) ≤ 57
+    → 4294967295 < m * 10 + (number_of_letter (attribute_letter_at class s at) - 48)
+    → number_from m (attribute_meaning class s (suc fuel) to at) ≡ Nothing
+large_letter class s to at m fuel inside low high large = go (attribute_letter_at class s at) refl low high large
+  where
+    go : (a : Reading Character) → attribute_letter_at class s at ≡ a → 48 ≤ number_of_letter a → number_of_letter a ≤ 57
+        → 4294967295 < m * 10 + (number_of_letter a - 48) → number_from m (attribute_meaning class s (suc fuel) to at) ≡ Nothing
+    go (whole c) q low high large = ap (number_from m) (attribute_goes class s to at inside q fuel)
+        ∙ too_large m c.code low high large (attribute_meaning class s fuel to c.end)
+    go (refused number place) q low high large = absurd (omega arith)
 
 -- ---- A zero that leads others makes no number; otherwise all digits are counted from 0.
 

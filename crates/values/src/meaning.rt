@@ -123,6 +123,7 @@ fn content_means(s: &[u8], table: &[u8; 256], from: usize, to: usize, word: &[u8
 }
 
 // The digits of a value make a number below 2^32.
+#[tactic(auto, using(crate::proofs::Letters::large_letter))]
 fn decimal(s: &[u8], table: &[u8; 256], from: usize, to: usize) -> Number
     ensures { result ≡ number_from 0 (attribute_meaning (class_in table.now) s.now (suc (length s.now)) to from) }
 {
@@ -149,6 +150,7 @@ fn decimal(s: &[u8], table: &[u8; 256], from: usize, to: usize) -> Number
 }
 
 // The number that an attribute's value names.
+#[tactic(auto, using(crate::proofs::Letters::number_empty, crate::proofs::Letters::number_refused, crate::proofs::Letters::number_leading, crate::proofs::Letters::number_counted))]
 pub fn number(s: &[u8], table: &[u8; 256], from: usize, to: usize) -> Number
     ensures { result ≡ number_of (attribute_meaning (class_in table.now) s.now (suc (length s.now)) to from) }
 {

@@ -3,6 +3,9 @@ use Rattle.std.proofs.Common.{arith}
 use Rattle.texts.proofs.Fields.{put_set}
 use Rattle.texts.proofs.put.Goals as goal
 
+pub bounds-out-end : goal.bounds-out-end
+bounds-out-end c = omega arith
+
 pub returns-clause-written : goal.returns-clause-written
 returns-clause-written c =
     let a = c.args in

@@ -1,7 +1,7 @@
 -- `scan::bytes::run_end` meets its contract: from each place that the loop comes to, the run ends where it ends from the first, and where fewer than four bytes pass it ends behind them. Assumes nothing.
 use mathlib.Core.Path.{refl, ◌∙◌}
 use native.Mathlib.Omega.{arith}
-use Rattle.message.proofs.Laws.{up_in, up_all, up_some}
+use Rattle.message.proofs.Laws.{up_in, up_all}
 use Rattle.scan.proofs.bytes.run_end.Goals as goal
 use Rattle.scan.proofs.bytes.run_end.Goals.{then-s-lt4, else-s-lt4}
 
@@ -11,17 +11,14 @@ loop-i-init c = (omega arith, elim c.if-s-lt4.branch [ then-s-lt4 w ↦ omega ar
 pub overflow_add-i : goal.overflow_add-i
 overflow_add-i c = omega (arith, up_in _ _ _ _ c.few-n.ensures)
 
-pub returns-then-n-ne4 : goal.returns-then-n-ne4
-returns-then-n-ne4 c = up_some _ _ _ _ c.few-n.ensures c.if-n-ne4.true ∙ c.loop-i.invariant.2
-
 pub loop-i-smaller : goal.loop-i-smaller
-loop-i-smaller c = omega (arith, up_in _ _ _ _ c.few-n.ensures, c.if-n-ne4.false)
+loop-i-smaller c = omega (arith, up_in _ _ _ _ c.few-n.ensures)
 
 pub loop-i-preserved : goal.loop-i-preserved
 loop-i-preserved c = (
   omega (arith, up_in _ _ _ _ c.few-n.ensures),
   c.loop-i.invariant.1,
-  up_all _ _ _ _ c.few-n.ensures c.if-n-ne4.false ∙ c.loop-i.invariant.2,
+  up_all _ _ _ _ c.few-n.ensures (omega arith) ∙ c.loop-i.invariant.2,
 )
 
 pub returns : goal.returns

@@ -6,7 +6,7 @@ use lib.ListN.{length}
 use Rattle.scan.proofs.Said.{character_is}
 use Rattle.message.proofs.Laws.{between_below, between_above}
 use Rattle.message.proofs.Letters.{attribute_letter_on}
-use Rattle.values.proofs.Letters.{attribute_goes, attribute_stops, attribute_ends, counted_refused, counted_all, counted_none, counted_large, counted_digit}
+use Rattle.values.proofs.Letters.{attribute_goes, attribute_stops, attribute_ends, counted_refused, counted_all, counted_none, counted_digit}
 use Rattle.values.proofs.meaning.decimal.Goals as goal
 
 pub loop-i-init : goal.loop-i-init
@@ -30,16 +30,13 @@ overflow_cast-number c = omega arith
 pub overflow_add-number : goal.overflow_add-number
 overflow_add-number c = omega arith
 
-pub returns-then-number-gt4294967295 : goal.returns-then-number-gt4294967295
-returns-then-number-gt4294967295 c = counted_large c.loop-i.invariant.1 _ _ (attribute_goes _ _ _ _ c.loop-i-test.true (character_is c.attribute_letter-c.ensures c.in-Whole.is)) c.if-code-lt48.false c.if-code-gt57.false c.if-number-gt4294967295.true
-
 pub loop-i-smaller : goal.loop-i-smaller
 loop-i-smaller c = omega (arith, attribute_letter_on _ _ _ (character_is c.attribute_letter-c.ensures c.in-Whole.is))
 
 pub loop-i-preserved : goal.loop-i-preserved
 loop-i-preserved c = (
   omega arith,
-  counted_digit c.loop-i.invariant.1 _ _ (attribute_goes _ _ _ _ c.loop-i-test.true (character_is c.attribute_letter-c.ensures c.in-Whole.is)) c.if-code-lt48.false c.if-code-gt57.false c.if-number-gt4294967295.false (attribute_letter_on _ _ _ (character_is c.attribute_letter-c.ensures c.in-Whole.is)),
+  counted_digit c.loop-i.invariant.1 _ _ (attribute_goes _ _ _ _ c.loop-i-test.true (character_is c.attribute_letter-c.ensures c.in-Whole.is)) c.if-code-lt48.false c.if-code-gt57.false (omega arith) (attribute_letter_on _ _ _ (character_is c.attribute_letter-c.ensures c.in-Whole.is)),
 )
 
 pub overflow_cast-result : goal.overflow_cast-result
