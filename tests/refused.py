@@ -1,8 +1,8 @@
 """Tries files of must-fail edits and gives what `rt check` says of each.
 
 Each is tried in a room of its own: a small repository with the edited crate and those that it stands on, where the check begins with what the crate's
-own check kept. As many are tried side by side as there are processors, and memory for. The rooms stand among git's files, where no check looks for
-sources and what is kept can be linked, and are removed at the end.
+own check kept. As many are tried side by side as there are processors, and memory for. The rooms stand among git's files, where `rt ci` looks for
+no sources and what is kept can be linked, and are removed at the end.
 """
 import os
 import re
@@ -114,13 +114,13 @@ def lanes():
 
 def logs_of(edits):
     """What `tried` gives of each file of edits, in their order. First every crate is proved as it stands."""
+    git = os.path.join(TOP, ".git")
+    rooms = os.path.join(git, "rooms") if os.path.isdir(git) else tempfile.mkdtemp()
+    shutil.rmtree(rooms, ignore_errors=True)  # what a run that was killed left, which the check of all would take for crates
     status, said = rt(TOP, "all", "check")
     if status:
         print(said, file=sys.stderr)
         return [("", "the crates are not proved as they stand")] * len(edits)
-    git = os.path.join(TOP, ".git")
-    rooms = os.path.join(git, "rooms") if os.path.isdir(git) else tempfile.mkdtemp()
-    shutil.rmtree(rooms, ignore_errors=True)  # what a run that was killed left
     of_thread, begun = threading.local(), iter(range(len(edits)))
 
     def one(edit):

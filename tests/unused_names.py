@@ -17,6 +17,8 @@ USE = re.compile(r"^(?:(pub|ghost) )?use ([^\s{]+?)(?:(?:\.|::)%s| as (\S+?))?;?
 MODULE = re.compile(r"Rattle\.(\w+)\.(specs|proofs)\.(.+)")
 QUALIFIED = re.compile(r"(?<![^\s(){};,@])(%s)\.(%s)" % (NAME, NAME))
 LOGIC = re.compile(r"\b(?:requires|ensures|invariant|ghost (?!use\b))[^{};]*%s|#!?\[tactic\(([^\]]*)\)\]" % BRACES)
+ATTRIBUTE = re.compile(r"#!?\[tactic\([^\]]*\)\]")
+PATH = re.compile(r"\b(\w+)::(specs|proofs)::([\w:]+)::(\w+)")
 PROJECTION = re.compile(r"(?<=[^\s({;,@\"«])\.%s" % NAME)
 DEFINITION = re.compile(r" *(?:(?:unfoldable )?(?:abbrev )?(?:pub )?(%s)(?: \{[^}]*\})? :(?!\S)|(?:pub )?(?:record|data) (%s))" % (NAME, NAME))
 STATEMENT = re.compile(r"^abbrev pub (\w+) : Type 0$", re.MULTILINE)
@@ -100,6 +102,8 @@ def citations(sources):
                 outer, _, inner = module.rpartition(".")
                 cited.add(((crate, side, outer), inner))
                 reached[alias] = (crate, side, module)
+        for crate, side, module, name in PATH.findall(" ".join(ATTRIBUTE.findall(source.code))):
+            cited.add(((source.module[0] if crate == "crate" else crate, side, module.replace("::", ".")), name))
         cited |= {(reached[alias], name) for alias, name in QUALIFIED.findall(source.code) if alias in reached}
     for document in files("docs", "*.md"):
         cited |= {((crate, side, module.replace("/", ".")), name) for name, crate, side, module in LINK.findall(read(document))}
