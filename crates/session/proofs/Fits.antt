@@ -1,9 +1,8 @@
 -- A call's events have room where they go.
 --     Fits, count_fits        so many places are there, and 40 at most are asked for
 --     count_all, all_given    so `give` gives them all
---     handed_on               what a call with a lent list answers, where `give` wrote its events
 -- Assumes nothing.
-use mathlib.Core.Path.{◌≡◌, ap, ◌∙◌}
+use mathlib.Core.Path.{◌≡◌, ap}
 use mathlib.Core.List.{List}
 use Prim.Native.Nat.{ℕ, ◌≤◌}
 use native.Mathlib.Omega.{arith}
@@ -13,7 +12,7 @@ use Rattle.conduct.specs.declared.Call.{Call}
 use Rattle.session.specs.declared.Session.{Session as Record}
 use Rattle.session.specs.declared.Told.{Told}
 use Rattle.session.specs.Rows.{list_of}
-use Rattle.session.specs.Answers.{told, written, SaysAndWrites}
+use Rattle.session.specs.Answers.{told, written}
 use Rattle.session.specs.Lent.{fit_of, given}
 use Rattle.session.proofs.Given.{fit_all}
 use Rattle.session.proofs.Histories.{list_fits}
@@ -33,13 +32,3 @@ pub all_given : (list : List Event) (t : Told) → Fits (length list) t
     → given list t.events.list (fit_of t.events.count (length list)) ≡ written list t
 unfolding list_of
 all_given list t fits = ap (given list t.events.list) (count_all (length list) t fits)
-
-pub handed_on : (t r : Told) (list left : List Event) (n : ℕ) → Fits (length list) t → r ≡ t
-    → (n ≡ fit_of r.events.count (length list)) × (left ≡ given list r.events.list n)
-    → SaysAndWrites t list (record { refusal = r.refusal; next = r.next; count = n }) left
-handed_on t r list left n fits is gave =
-    let fit : n ≡ fit_of t.events.count (length list) = gave.0 ∙ ap (λ (u : Told). fit_of u.events.count (length list)) is in
-    let count : n ≡ t.events.count = fit ∙ count_all (length list) t fits in (
-      λ i. record { refusal = (is i).refusal; next = (is i).next; count = count i },
-      gave.1 ∙ ap (λ (u : Told). given list u.events.list n) is ∙ ap (given list t.events.list) fit ∙ all_given list t fits,
-    )

@@ -14,6 +14,7 @@ use rules::{moves, numbers, states};
 const PLACES: usize = 40;
 
 // The refusal of a call on a consistent session; 0: it is accepted.
+#[tactic(auto, using(crate::proofs::Rows::rows_count))]
 fn refusal_of(s: Session, call: Call) -> u32
     requires { s.pushes.count ≤ 32 }
     ensures { result ≡ refusal_of (session_of s) call }
@@ -82,6 +83,7 @@ fn accepted(s: Session, call: Call) -> Told
     }
 }
 
+#[tactic(auto, using(crate::proofs::Records::when_refused))]
 pub(crate) fn told(s: Session, call: Call, places: usize) -> Told
     ensures { result ≡ told places s call }
 {

@@ -6,6 +6,7 @@ use crate::{Session, holding, tables};
 use rules::{numbers, pushes, sound};
 
 // What every session has that was made, or reached from one that was; others may have it too.
+#[tactic(auto, using(crate::proofs::Rows::rows_count))]
 pub(crate) fn is_consistent(s: Session) -> bool
     ensures { result ≡ consistent s }
 {
