@@ -1,7 +1,7 @@
 #!/usr/bin/env python3
 """Checks that no public function is without its law that its contract has one answer.
 
-For each public function of a library the crate's proofs/OneAnswer.antt has a law `name_once`, or `type_name_once` of a method, which repeats the
+For each public function of a library the crate's proofs/OneAnswer.antt has a law `name_once`, `type_name_once` of a method or `from_type_once` of a conversion, which repeats the
 equations of the function's `ensures` twice, of r and of r', and ends in r ≡ r'; and no law is left over. The `result` of a contract is r in the law, or
 a where a parameter is called r, and what a function is lent is a list there, so `s.now` and `s.old` of a contract are `s`, as is `s.entry`. What it leaves
 of something lent, `s.new`, is `left` in the law, or `sLeft` where several things are lent, and the law then ends in (r ≡ r') × (left ≡ left').
@@ -23,6 +23,8 @@ def laws_of(crate):
 
 
 def name_of_law(function, laws):
+    if function.name == "from":
+        return "from_%s_once" % function.owner.lower()
     name = function.name + "_once"
     return function.owner.lower() + "_" + name if function.owner and name not in laws else name
 

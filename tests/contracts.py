@@ -12,6 +12,7 @@ FUNCTION = re.compile(
     r'([^\n{]*(?:\n\1(?: [^\n]*|\)[^\n{]*))*))(?: |\n\1)\{([^\n]*(?=\}$)|\n.*?(?=^\1\}))',
     re.MULTILINE | re.DOTALL)
 IMPLEMENTATION = re.compile(r"^impl(?:<[^>]*>)? (?:\w+ for )?(\w+)", re.MULTILINE)
+CONVERSION = re.compile(r"^impl From<(\w+)> for u32 \{\n+ +ghost from_gives = \{ λ \w+ (\w+)\. (.*?) \};", re.MULTILINE)
 REQUIRES = re.compile(r"^ +requires\b", re.MULTILINE)
 ENSURES = re.compile(r"^ +ensures (?:\w+ )?\{((?:[^{}]|\{(?:[^{}]|\{[^{}]*\})*\})*)\}", re.MULTILINE)
 RESULT = re.compile(r"(?<![\w.])result\b")
@@ -24,7 +25,7 @@ class Function:
     crate: str
     source: str  # the file, from the root
     module: str  # inside the crate, '' at its root
-    owner: str  # the type that it is a method of, or ''
+    owner: str  # the type that it is a method of or, of a conversion, that is converted; or ''
     name: str
     public: bool
     contract: str  # as it is written, with attributes and the signature in front
@@ -58,6 +59,15 @@ def owner_at(code, place, indented):
     return owners[-1] if indented and owners else ""
 
 
+def conversion_at(code, place):
+    """The type that the `from` at a place makes a number of, and the equation that its implementation states; nothing of any other function."""
+    found = [found for found in CONVERSION.finditer(code) if found.start() < place]
+    if not found or re.search(r"^\}", code[found[-1].start() : place], re.MULTILINE):
+        return "", []
+    converted, result, equation = found[-1].groups()
+    return converted, [flat(re.sub(r"\b%s\b" % result, "result", equation))]
+
+
 def functions_of(crate, top=TOP):
     folder = os.path.join(top, "crates", crate, "src")
     for source in files(folder, "**", "*.rt"):
@@ -65,9 +75,11 @@ def functions_of(crate, top=TOP):
         module = os.path.splitext(os.path.relpath(source, folder))[0].replace(os.sep, "::")
         for found in FUNCTION.finditer(code):
             indent, attributes, contract, name, head, body = found.groups()
-            yield Function(crate, os.path.relpath(source, top), "" if module == "lib" else module, owner_at(code, found.start(), indent), name,
-                           contract.startswith("pub "), attributes + contract, body,
-                           bool(REQUIRES.search(head)), [flat(clause) for clause in ENSURES.findall(head)],
+            owner, equations = owner_at(code, found.start(), indent), [flat(clause) for clause in ENSURES.findall(head)]
+            converted, stated = conversion_at(code, found.start()) if name == "from" else ("", [])
+            yield Function(crate, os.path.relpath(source, top), "" if module == "lib" else module, converted or owner, name,
+                           contract.startswith("pub ") or bool(converted), attributes + contract, body,
+                           bool(REQUIRES.search(head)), stated or equations,
                            [name or own for name, own in LENT.findall(ENSURES.sub("", head))], imports)
 
 

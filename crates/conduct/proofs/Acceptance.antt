@@ -1,15 +1,17 @@
 -- The open pushes stand in the order in which they were accepted: a sweep leaves some out, and a push that is accepted comes last.
 -- Assumes nothing.
 use mathlib.Core.Path.{◌≡◌, refl, sym, ap₂, subst, ◌∙◌}
-use mathlib.Core.Bool.{true, not}
+use mathlib.Core.Bool.{true}
 use mathlib.Core.List.{List, [], ◌∷◌, ◌++◌, map, append-nil, append_assoc}
 use Prim.Native.Nat.{ℕ}
-use borrow.Author.Tests.{not-true}
+use Rattle.std.proofs.lemmas.List.{map-append}
+use Rattle.std.proofs.lemmas.Bool.Decides.{nat_tests}
+use native.Mathlib.Omega.{arith}
 use Rattle.conduct.specs.Lists.{flat, only, those}
-use Rattle.conduct.specs.Numbers.{next_free, numbered, all_numbered}
+use Rattle.conduct.specs.Numbers.{next_free, all_numbered}
 use Rattle.conduct.specs.Pushes.{terms_of, kept_by, keeps, tells, fate_of}
 use Rattle.conduct.specs.Session.{Session, held}
-use Rattle.conduct.specs.Step.{noted, remark_notes, opens, events_by, moved_by, Answered, step}
+use Rattle.conduct.specs.Step.{remark_notes, opens, events_by, moved_by, Answered, step}
 use Rattle.conduct.specs.History.{first_sending, history, events_in}
 use Rattle.conduct.specs.Followed.{first_code}
 use Rattle.conduct.specs.Order.{Thinned, none, kept, left, acceptance, InOrderOfAcceptance}
@@ -25,10 +27,10 @@ use Rattle.conduct.specs.declared.Remark.TheVariants as remarks
 use Rattle.conduct.specs.declared.Call.{Call}
 use Rattle.conduct.specs.declared.Move.{Move}
 use Rattle.conduct.specs.declared.Terms.{Terms}
-use Rattle.conduct.proofs.Lists.{flat_append, flat_nothing, map_append, none_those}
+use Rattle.conduct.proofs.Lists.{flat_append, flat_nothing, none_those}
 use Rattle.conduct.proofs.Sweeps.{Same, Of, fate_of_lem}
 use Rattle.conduct.proofs.Moves.{usual, Usual, stays, departs, by_moves}
-use Rattle.conduct.proofs.Said.{told_fails, note_pass}
+use Rattle.conduct.proofs.Said.{told_fails}
 
 -- ---- lists of which some is left out
 
@@ -77,9 +79,7 @@ sweep_thins terms sweep (p ∷ ps) = go (fate_of terms sweep p) (fate_of_lem ter
 pub remark_accepts : (hs : List ℕ) (last : ℕ) (remark : Remark) → usual remark ≡ true
     → those first_sending (all_numbered hs last (remark_notes remark)) ≡ map acceptance (opens (next_free hs last) remark)
 remark_accepts hs last remarks.Nothing u = refl
-remark_accepts hs last (remarks.Note code detail) u =
-    let e = numbered hs last (noted code detail) in
-    rw (not-true (first_sending e) (note_pass (λ (e : Event). not (first_sending e)) hs last refl (λ r. refl) code detail u))
+remark_accepts hs last (remarks.Note code detail) u = grind (arith, nat_tests)
 remark_accepts hs last (remarks.Send Response handle) u = refl
 remark_accepts hs last (remarks.Send Advisory handle) u = refl
 
@@ -96,7 +96,7 @@ move_thins s m (stays to sweep remark stay lost said ok) =
     let accepts : those first_sending (t ++ r) ≡ map acceptance o =
     flat_append (only first_sending) t r ∙ ap₂ ◌++◌ none_told (remark_accepts (held s) s.last remark said)
     in
-    rw (map_append acceptance (flat (keeps (terms_of s.site) sweep) s.pushes) o, accepts)
+    rw (map-append acceptance (flat (keeps (terms_of s.site) sweep) s.pushes) o, accepts)
     (thin_append (sweep_thins (terms_of s.site) sweep s.pushes) (thin_same (map acceptance o)))
 move_thins s m (departs to parting down few) =
     let lost = flat_nothing (keeps (terms_of s.site) sweeps.Lost) (λ p. refl) s.pushes in

@@ -1,16 +1,14 @@
 -- Where a message leads, by what the table has for its kind in the state. Assumes nothing.
+use Rattle.std.specs.Prelude.{Option, None, Some}
 use mathlib.Core.Path.{◌≡◌, refl}
 use mathlib.Core.Bool.{Bool, true, false, cond}
 use mathlib.Core.Logic.{inl, inr}
 use Prim.Native.Nat.{ℕ, ◌-◌}
 use native.Mathlib.Omega.{arith}
 use borrow.Author.Tests.{eq-eqb}
-use Rattle.laws.proofs.Tests.{true_false}
 use Rattle.message.specs.declared.Kind.{Kind}
 use Rattle.message.specs.declared.Kind.TheVariants as kinds
 use Rattle.message.specs.declared.Message.{Message}
-use Rattle.message.specs.declared.Number.{Number}
-use Rattle.message.specs.declared.Number.TheVariants as numbers
 use Rattle.message.specs.declared.Status.{Status}
 use Rattle.message.specs.declared.Status.TheVariants as statuses
 use Rattle.message.specs.Messages.{kind_number}
@@ -28,26 +26,26 @@ use Rattle.conduct.proofs.Onward.Onward.{same, answers, ends}
 
 module _ (s : Session) (m : Message) where
   acknowledged_onward : m.kind ≡ kinds.Ok → From s m s.state (acknowledged s (named_by m.in_response_to))
-  acknowledged_onward k = go m.in_response_to.there refl m.in_response_to.number refl
+  acknowledged_onward k = go m.in_response_to.there refl m.in_response_to.meaning refl
     where
-      go : (b : Bool) → m.in_response_to.there ≡ b → (v : Number) → m.in_response_to.number ≡ v
-          → From s m s.state (acknowledged s (cond b v numbers.Nothing))
+      go : (b : Bool) → m.in_response_to.there ≡ b → (v : Option ℕ) → m.in_response_to.meaning ≡ v
+          → From s m s.state (acknowledged s (cond b v None))
       go false e v f = same refl refl
-      go true e numbers.Nothing f = same refl refl
-      go true e (numbers.Names n) f =
+      go true e None f = same refl refl
+      go true e (Some n) f =
           ok_onward s m n (inl (rw (k, e, f, eq-eqb n n refl))) s.state
 
   advised_onward : m.kind ≡ kinds.Advisory → From s m s.state (acted s m actions.Advise)
-  advised_onward k = go m.in_relation_to.there refl m.in_relation_to.number refl
+  advised_onward k = go m.in_relation_to.there refl m.in_relation_to.meaning refl
     where
       unread : Bool
       unread = says_unreadable m
 
-      go : (b : Bool) → m.in_relation_to.there ≡ b → (v : Number) → m.in_relation_to.number ≡ v
+      go : (b : Bool) → m.in_relation_to.there ≡ b → (v : Option ℕ) → m.in_relation_to.meaning ≡ v
           → From s m s.state (cond b (advised_about s (advice_by m.advisory_type) v) (goes s.state (note advisory_arrived)))
       go false e v f = same refl refl
-      go true e numbers.Nothing f = same refl refl
-      go true e (numbers.Names n) f =
+      go true e None f = same refl refl
+      go true e (Some n) f =
           advisory_onward s m n (advice_by m.advisory_type) (inr (unread, rw (k, e, f, eq-eqb n n refl))) s.state
 
   answered_onward : (age : ℕ) (status : Status) → s.state ≡ Opening age → From s m s.state (answered (next_number s) status)
@@ -83,9 +81,9 @@ module _ (s : Session) (m : Message) where
   placed_in kinds.Response e = (λ age f. tt, tt, tt)
 
   pub placed : (state : State) → s.state ≡ state → is_linked state ≡ true → Placed (action_of state m.kind)
-  placed (Waiting left) e l = absurd (true_false l refl)
-  placed Connecting e l = absurd (true_false l refl)
+  placed (Waiting left) e l = cc
+  placed Connecting e l = cc
   placed (Opening age) e l = (placed_in m.kind refl).0 age e
   placed (Confirming number age) e l = (placed_in m.kind refl).1
   placed (Up waiting age) e l = (placed_in m.kind refl).2
-  placed Stopped e l = absurd (true_false l refl)
+  placed Stopped e l = cc

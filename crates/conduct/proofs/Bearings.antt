@@ -1,25 +1,25 @@
 -- What becomes of a push by what bears on it. `fate_by` looks at no number and no handle, so pushes that differ in these alone have one
 -- `tale`. In a sound session that is up and stays up, an accepted call does to the pushes with the number n what it is to n.
 -- Assumes nothing.
+use Rattle.std.specs.Prelude.{Option, None, Some}
 use mathlib.Core.Path.{◌≡◌, refl, sym, ap, ap₂, subst⁻¹, ◌∙◌}
 use mathlib.Core.Bool.{Bool, true, false, cond}
 use mathlib.Core.List.{List, [], ◌∷◌, ◌++◌}
 use Prim.Native.Nat.{ℕ, ◌+◌}
 use native.Mathlib.Omega.{arith}
 use lib.Dec.{eqb, ltb}
-use borrow.Author.Tests.{eq-eqb, ne_eqb, eqb-true}
-use Rattle.laws.proofs.Tests.{true_false}
-use Rattle.message.proofs.Laws.{cond_cases, cond_both}
+use borrow.Author.Tests.{ne_eqb, eqb-true}
+use Rattle.std.proofs.lemmas.Bool.{both_ways}
+use Rattle.std.proofs.lemmas.Bool.Decides.{nat_tests}
+use Rattle.message.proofs.Laws.{on_either}
 use Rattle.conduct.specs.Lists.{flat, among, distinct}
-use Rattle.conduct.specs.Codes.{send_response_again, closed_acknowledged, closed_advised, closed_timed_out}
-use Rattle.conduct.specs.Pushes.{terms_of, event_of, older, sent_again, may_go_again, again_or, fate_of, kept_by, told_by}
+use Rattle.conduct.specs.Codes.{closed_acknowledged, closed_advised}
+use Rattle.conduct.specs.Pushes.{terms_of, event_of, older, sent_again, again_or, fate_of, kept_by, told_by}
 use Rattle.conduct.specs.Session.{Session, is_up, awaited_numbers, push_numbers, held}
 use Rattle.conduct.specs.Sound.{sound}
 use Rattle.conduct.specs.Rules.{tick, move_of}
 use Rattle.conduct.specs.History.{codes_of, Bearing, call_bearing}
 use Rattle.conduct.specs.History.Bearing.{ticked, acknowledged, unreadable_message, advised}
-use Rattle.conduct.specs.declared.Awaited.{Awaited}
-use Rattle.conduct.specs.declared.Awaited.TheVariants as awaited
 use Rattle.conduct.specs.declared.State.{State}
 use Rattle.conduct.specs.declared.State.TheVariants.{Waiting, Connecting, Opening, Confirming, Up, Stopped}
 use Rattle.conduct.specs.declared.Site.{Site}
@@ -29,12 +29,11 @@ use Rattle.conduct.specs.declared.Call.{Call}
 use Rattle.conduct.specs.declared.Call.TheVariants as calls
 use Rattle.conduct.specs.declared.Sweep.TheVariants as sweeps
 use Rattle.conduct.specs.declared.Fate.{Fate}
-use Rattle.conduct.specs.declared.Fate.TheVariants.{Keep, Again, Close}
+use Rattle.conduct.specs.declared.Fate.TheVariants.{Keep, Close}
 use Rattle.conduct.specs.declared.Move.{Move}
 use Rattle.conduct.specs.declared.Terms.{Terms}
 use Rattle.conduct.proofs.Lists.{distinct_head}
 use Rattle.conduct.proofs.Story.{tick_in}
-use Rattle.conduct.proofs.Others.{sweep_by, aside}
 use Rattle.conduct.proofs.Named.{move_by, Naming, heard_naming}
 use Rattle.conduct.proofs.Named.Naming.{names_one, names_none}
 use Rattle.conduct.proofs.Good.{good}
@@ -81,20 +80,12 @@ module _ (terms : Terms) (bs : List Bearing) (what : Pushed) (sent age n n' h h'
   abbrev agree : Fate → Fate → Type 0
   agree f f' = tale_from f ≡ tale_from f'
 
-  agree_if : (b : Bool) (f g f' g' : Fate) → agree f f' → agree g g' → agree (cond b f g) (cond b f' g')
-  agree_if true f g f' g' x y = x
-  agree_if false f g f' g' x y = y
-
   again_agrees : (code : ℕ) → tales_agree (sent_again p ∷ []) (sent_again q ∷ []) → agree (again_or terms code p) (again_or terms code q)
-  again_agrees code anew =
-      agree_if (may_go_again terms p) (Again (sent_again p) (event_of send_response_again p)) (Close (event_of code p))
-      (Again (sent_again q) (event_of send_response_again q)) (Close (event_of code q)) (ap (◌∷◌ (send_response_again ∷ [])) anew) refl
+  again_agrees code anew = grind (arith, nat_tests)
 
   tick_agrees : tales_agree (older p ∷ []) (older q ∷ []) → tales_agree (sent_again p ∷ []) (sent_again q ∷ [])
       → agree (fate_by terms ticked p) (fate_by terms ticked q)
-  tick_agrees longer anew =
-      agree_if (ltb (age + 1) terms.ticks) (Keep (older p)) (again_or terms closed_timed_out p) (Keep (older q)) (again_or terms closed_timed_out q)
-      (ap (◌∷◌ []) longer) (again_agrees closed_timed_out anew)
+  tick_agrees longer anew = grind (arith, nat_tests)
 
 pub same_tale : (terms : Terms) (bs : List Bearing) (what : Pushed) (sent age n n' h h' : ℕ)
     → tale terms (push_with what sent age n h ∷ []) bs ≡ tale terms (push_with what sent age n' h' ∷ []) bs
@@ -108,7 +99,7 @@ same_tale terms (advised ∷ bs) what sent age n n' h h' = refl
 
 -- ---- a call, and a push p with the number n, in Up, where n is an open push's number and not the open SessionOk's
 
-module _ (n : ℕ) (p : Push) (own : p.number ≡ n) (site : Site) (last : ℕ) (waiting : Awaited) (age : ℕ) (ps : List Push)
+module _ (n : ℕ) (p : Push) (own : p.number ≡ n) (site : Site) (last : ℕ) (waiting : Option ℕ) (age : ℕ) (ps : List Push)
     (not_awaited : among n (awaited_numbers waiting) ≡ false) (is_open : among n (push_numbers ps) ≡ true)
   where
     abbrev terms : Terms
@@ -120,36 +111,10 @@ module _ (n : ℕ) (p : Push) (own : p.number ≡ n) (site : Site) (last : ℕ) 
     abbrev fate_from : Move → Fate
     fate_from m = fate_of terms m.sweep p
 
-    -- what a message that names n is to p
-    own_fate : (b : Bearing) → tick_in (b ∷ []) ≡ 0 → fate_of terms (sweep_by n b) p ≡ fate_by terms b p
-    own_fate ticked quiet = absurd (omega (arith, quiet))
-    own_fate acknowledged quiet = rw (eq-eqb p.number n own)
-    own_fate unreadable_message quiet = rw (eq-eqb p.number n own)
-    own_fate advised quiet = rw (eq-eqb p.number n own)
-
     -- one that names the number j is something to p just if j is n
     named_is : (j : ℕ) (b : Bearing) → tick_in (b ∷ []) ≡ 0
         → fate_from (move_by j waiting age (among j (awaited_numbers waiting)) (among j (push_numbers ps)) b) ≡ fate_in terms (cond (eqb j n) (b ∷ []) []) p
-    named_is j b quiet =
-        cond_cases (λ (bs : List Bearing). fate_from (move_by j waiting age x y b) ≡ fate_in terms bs p) (eqb j n) (λ e. its_own (eqb-true j n e))
-        (λ e. other x y (ne_eqb p.number j (λ d. true_false (eq-eqb j n (sym d ∙ own)) e)))
-      where
-        x : Bool
-        x = among j (awaited_numbers waiting)
-
-        y : Bool
-        y = among j (push_numbers ps)
-
-        its_own : j ≡ n → fate_from (move_by j waiting age x y b) ≡ fate_by terms b p
-        its_own e =
-            let no_ok : x ≡ false = rw e not_awaited in
-            let a_push_lem : y ≡ true = rw e is_open in
-            rw (no_ok, a_push_lem, e) (own_fate b quiet)
-
-        other : (x y : Bool) → eqb p.number j ≡ false → fate_from (move_by j waiting age x y b) ≡ Keep p
-        other true y e = refl
-        other false true e = aside terms j b p e
-        other false false e = refl
+    named_is j b quiet = grind (arith, nat_tests)
 
     heard_is : {bearing : ℕ → List Bearing} {m : Move} → Naming waiting age ps bearing m → fate_from m ≡ fate_in terms (bearing n) p
     heard_is (names_none still none) = rw (still, none n)
@@ -159,15 +124,15 @@ module _ (n : ℕ) (p : Push) (own : p.number ≡ n) (site : Site) (last : ℕ) 
     abbrev TickIs : Move → Type 0
     TickIs m = is_up m.to ≡ true → fate_from m ≡ fate_of terms sweeps.Older p
 
-    tick_is : (next : ℕ) (w : Awaited) → TickIs (tick site.interval next (Up w age))
-    tick_is next awaited.Nothing = cond_both TickIs (ltb (age + 1) site.interval) (λ u. refl) (λ u. refl)
-    tick_is next (awaited.Ok number) = cond_both TickIs (ltb age 19) (λ u. refl) (λ u. absurd (true_false u refl))
+    tick_is : (next : ℕ) (w : Option ℕ) → TickIs (tick site.interval next (Up w age))
+    tick_is next None = on_either TickIs (ltb (age + 1) site.interval) (λ u. refl) (λ u. refl)
+    tick_is next (Some number) = on_either TickIs (ltb age 19) (λ u. refl) (λ u. cc)
 
     call_is : (c : Call) → is_up (move_of s c).to ≡ true → fate_from (move_of s c) ≡ fate_in terms (call_bearing n c) p
     call_is calls.Tick u = tick_is _ waiting u
-    call_is calls.Connected u = absurd (true_false u refl)
-    call_is calls.Lost u = absurd (true_false u refl)
-    call_is calls.Stop u = absurd (true_false u refl)
+    call_is calls.Connected u = cc
+    call_is calls.Lost u = cc
+    call_is calls.Stop u = cc
     call_is (calls.Push what handle) u = refl
     call_is (calls.Heard m) u = heard_is (heard_naming site last waiting age ps m m.kind)
     call_is (calls.Unreadable refusal) u = refl
@@ -175,10 +140,10 @@ module _ (n : ℕ) (p : Push) (own : p.number ≡ n) (site : Site) (last : ℕ) 
 -- ---- a call, and all pushes with the number n
 
 -- an open push's number is not the open SessionOk's
-pub not_awaited_too : (n : ℕ) (w : Awaited) (ms : List ℕ) → distinct (awaited_numbers w ++ ms) ≡ true → among n ms ≡ true
+pub not_awaited_too : (n : ℕ) (w : Option ℕ) (ms : List ℕ) → distinct (awaited_numbers w ++ ms) ≡ true → among n ms ≡ true
     → among n (awaited_numbers w) ≡ false
-not_awaited_too n awaited.Nothing ms d h = refl
-not_awaited_too n (awaited.Ok m) ms d h = rw (ne_eqb n m (λ e. true_false h (rw e (distinct_head m ms d))))
+not_awaited_too n None ms d h = refl
+not_awaited_too n (Some m) ms d h = rw (ne_eqb n m (λ e. both_ways _ (rw e (distinct_head m ms d)) h))
 
 flat_mine : {B : Type 0} (n : ℕ) (f g : Push → List B) → ((p : Push) → p.number ≡ n → f p ≡ g p) → (ps : List Push)
     → flat f (mine n ps) ≡ flat g (mine n ps)
@@ -197,7 +162,7 @@ module _ {B : Type 0} (g : Fate → List B) (n : ℕ) (c : Call) where
       flat (λ (p : Push). g (fate_of (terms_of s.site) (move_of s c).sweep p)) (mine n s.pushes)
       ≡ flat (λ (p : Push). g (fate_in (terms_of s.site) (call_bearing n c) p)) (mine n s.pushes)
 
-  borne_up : (site : Site) (last : ℕ) (w : Awaited) (age : ℕ) (ps : List Push)
+  borne_up : (site : Site) (last : ℕ) (w : Option ℕ) (age : ℕ) (ps : List Push)
       → let s : Session = record { site = site; state = Up w age; pushes = ps; last = last } in
       distinct (held s) ≡ true → is_up (move_of s c).to ≡ true → Borne s
   borne_up site last w age ps d u = go (among n (push_numbers ps)) refl
@@ -216,13 +181,13 @@ module _ {B : Type 0} (g : Fate → List B) (n : ℕ) (c : Call) where
   borne s ok up stays = go s.state refl up
     where
       go : (state : State) → s.state ≡ state → is_up state ≡ true → Borne s
-      go (Waiting left) e u = absurd (true_false u refl)
-      go Connecting e u = absurd (true_false u refl)
-      go (Opening age) e u = absurd (true_false u refl)
-      go (Confirming number age) e u = absurd (true_false u refl)
+      go (Waiting left) e u = cc
+      go Connecting e u = cc
+      go (Opening age) e u = cc
+      go (Confirming number age) e u = cc
       go (Up w age) e u =
           subst⁻¹ (λ (t : Session). distinct (held t) ≡ true → is_up (move_of t c).to ≡ true → Borne t)
           (λ i. record { site = s.site; state = e i; pushes = s.pushes; last = s.last })
           (borne_up s.site s.last w age s.pushes)
           (good {s = s} ok).numbers_are stays
-      go Stopped e u = absurd (true_false u refl)
+      go Stopped e u = cc

@@ -8,7 +8,9 @@ use Prim.Native.Nat.{ℕ, ◌<◌, ◌^◌}
 use lib.Dec.{eqb}
 use lib.ListN.{length}
 use borrow.Author.Tests.{eqb-true}
-use Rattle.laws.proofs.Tests.{either, neither, true_false}
+use Rattle.std.proofs.lemmas.Bool.{or_cases, or_parts}
+use Rattle.std.proofs.lemmas.Bool.Decides.{nat_tests}
+use native.Mathlib.Omega.{arith}
 use Rattle.conduct.specs.Lists.{flat, only, those, some, among}
 use Rattle.conduct.specs.Numbers.{Note, next_free, numbered, last_after, all_numbered}
 use Rattle.conduct.specs.Codes.{sending}
@@ -38,9 +40,9 @@ use Rattle.conduct.proofs.Moves.Usual.{stays, departs}
 -- a number that is given is free
 notes_give : (hs : List ℕ) (n : ℕ) → length hs < 2 ^ 32 → (notes : List Note) (last : ℕ)
     → some (gives n) (all_numbered hs last notes) ≡ true → among n hs ≡ false
-notes_give hs n few [] last h = absurd (true_false h refl)
+notes_give hs n few [] last h = cc
 notes_give hs n few (note ∷ notes) last h =
-    go (takes note.code) refl (either (gives n (numbered hs last note)) _ h) (notes_give hs n few notes (last_after hs last note))
+    go (takes note.code) refl (or_cases (gives n (numbered hs last note)) _ h) (notes_give hs n few notes (last_after hs last note))
   where
     taken : next_free hs last ≡ n → among n hs ≡ false
     taken e = subst (λ (m : ℕ). among m hs ≡ false) e (next_is_free hs last few)
@@ -50,7 +52,7 @@ notes_give hs n few (note ∷ notes) last h =
         → (some (gives n) (all_numbered hs (last_after hs last note) notes) ≡ true → among n hs ≡ false)
         → among n hs ≡ false
     go true e (inl g) ih = taken (eqb-true (next_free hs last) n g)
-    go false e (inl g) ih = absurd (true_false g refl)
+    go false e (inl g) ih = cc
     go b e (inr g) ih = ih g
 
 -- whether n is a push's number
@@ -66,12 +68,7 @@ opens_other : (hs : List ℕ) (n last : ℕ) (r : Remark) → some (gives n) (al
     → mine n (opens (next_free hs last) r) ≡ []
 opens_other hs n last remarks.Nothing h = refl
 opens_other hs n last (remarks.Note code detail) h = refl
-opens_other hs n last (remarks.Send what handle) h = none_those (is n) (opens (next_free hs last) (remarks.Send what handle)) (go what h)
-  where
-    go : (what : Pushed) → some (gives n) (all_numbered hs last (remark_notes (remarks.Send what handle))) ≡ false
-        → (eqb (next_free hs last) n || false) ≡ false
-    go Response h = h
-    go Advisory h = h
+opens_other hs n last (remarks.Send what handle) h = grind (arith, nat_tests)
 
 -- what a move says before its sweep and after it
 abbrev parting_events : Session → Move → List Event
@@ -90,7 +87,7 @@ module _ (n : ℕ) (s : Session) (m : Move) where
       )
 
   pub given_free : length (held s) < 2 ^ 32 → some (gives n) (events_by s m) ≡ true → among n (held s) ≡ false
-  given_free few h = go (either _ _ (sym giving ∙ h))
+  given_free few h = go (or_cases _ _ (sym giving ∙ h))
     where
       go : (some (gives n) (parting_events s m) ≡ true) ⊎ (some (gives n) (remark_events s m) ≡ true) → among n (held s) ≡ false
       go (inl g) = notes_give (held s) n few (parting_notes m.parting) s.last g
@@ -98,7 +95,7 @@ module _ (n : ℕ) (s : Session) (m : Move) where
 
   pub call_left : some (gives n) (events_by s m) ≡ false → mine n (moved_by s m).pushes ≡ flat (keeps (terms_of s.site) m.sweep) (mine n s.pushes)
   call_left h =
-      let r = (neither (some (gives n) (parting_events s m)) _ (sym giving ∙ h)).1 in
+      let r = (or_parts (some (gives n) (parting_events s m)) _ (sym giving ∙ h)).1 in
       flat_append (only (is n)) (flat (keeps (terms_of s.site) m.sweep) s.pushes) _
       ∙ (ap₂ ◌++◌ (sweep_kept n (terms_of s.site) m.sweep s.pushes) (opens_other (held s) n (last_after_parting s m) m.remark r) ∙ append-nil _)
 

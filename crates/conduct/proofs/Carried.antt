@@ -3,6 +3,7 @@ use mathlib.Core.Path.{◌≡◌, refl, ◌∙◌}
 use mathlib.Core.Bool.{Bool, true}
 use mathlib.Core.List.{[]}
 use Prim.Native.Nat.{ℕ}
+use Rattle.std.proofs.lemmas.Bool.{and_from}
 use Rattle.conduct.specs.Lists.{flat, all}
 use Rattle.conduct.specs.Codes.{sending}
 use Rattle.conduct.specs.Numbers.{numbered, all_numbered}
@@ -15,7 +16,7 @@ use Rattle.conduct.specs.declared.Pushed.{Pushed}
 use Rattle.conduct.specs.declared.Pushed.TheVariants.{Response, Advisory}
 use Rattle.conduct.specs.declared.Sweep.TheVariants as sweeps
 use Rattle.conduct.specs.declared.Move.{Move}
-use Rattle.conduct.proofs.Lists.{both, all_append}
+use Rattle.conduct.proofs.Lists.{all_append}
 use Rattle.conduct.proofs.Moves.{plain_codes, Usual, stays, departs, by_moves}
 use Rattle.conduct.proofs.Said.{told_codes, parting_codes, told_pass, parting_pass, remark_pass}
 
@@ -28,11 +29,10 @@ module _ (test : Event → Bool) (s : Session)
   move_pass : (m : Move) → Usual s.state m → all test (events_by s m) ≡ true
   move_pass m (stays to sweep remark up lost said ok) =
       all_append test (flat (tells (terms_of s.site) sweep) s.pushes) (all_numbered (held s) s.last (remark_notes remark))
-      ∙ both (told_pass test told (terms_of s.site) sweep s.pushes) (remark_pass test (held s) s.last remark_says unreadable sent remark said)
+      ∙ and_from _ _ (told_pass test told (terms_of s.site) sweep s.pushes) (remark_pass test (held s) s.last remark_says unreadable sent remark said)
   move_pass m (departs to parting down few) =
       all_append test (all_numbered (held s) s.last (parting_notes parting)) _
-      ∙ both (parting_pass test (held s) parting-says parting s.last)
-      (all_append test (flat (tells (terms_of s.site) sweeps.Lost) s.pushes) [] ∙ both (told_pass test told (terms_of s.site) sweeps.Lost s.pushes) refl)
+      ∙ and_from _ _ (parting_pass test (held s) parting-says parting s.last) (all_append test (flat (tells (terms_of s.site) sweeps.Lost) s.pushes) [] ∙ and_from _ _ (told_pass test told (terms_of s.site) sweeps.Lost s.pushes) refl)
 
 sent_number_lem : (s : Session) (what : Pushed) (handle : ℕ) → number_fits (numbered (held s) s.last (noted (sending what) handle)) ≡ true
 sent_number_lem s Response handle = refl

@@ -1,20 +1,19 @@
 -- A call is refused, leads onward, or is a tick: so what holds of these holds of any call, and the ticks of a state's timer are counted over any calls.
 -- Assumes nothing.
-use mathlib.Core.Path.{◌≡◌, refl, ap, ◌∙◌}
-use mathlib.Core.Bool.{Bool, true, false, cond, ◌&&◌, ◌||◌}
-use mathlib.Core.List.{List, [], ◌∷◌, ◌++◌}
+use mathlib.Core.Path.{◌≡◌, refl, ap}
+use mathlib.Core.Bool.{true, false, cond, ◌&&◌, ◌||◌}
+use mathlib.Core.List.{List, [], ◌∷◌}
 use Prim.Native.Nat.{ℕ, zero, suc, ◌+◌, ◌<◌}
 use native.Mathlib.Omega.{arith}
 use lib.Dec.{eqb, eqb-suc-zero}
-use lib.ListN.{length}
-use Rattle.laws.proofs.Tests.{true_false}
-use Rattle.conduct.specs.Lists.{those}
+use native.Mathlib.Nat.{add-zero, zero-add, add_assoc}
+use Rattle.std.proofs.lemmas.Bool.Decides.{nat_tests}
 use Rattle.conduct.specs.Session.{Session, is_connecting, is_linked, is_stopped, state_number, refusal_of}
 use Rattle.conduct.specs.Sound.{sound}
 use Rattle.conduct.specs.Table.{action_of}
 use Rattle.conduct.specs.Rules.{tick, stop, next_number, move_of}
 use Rattle.conduct.specs.Step.{events_by, moved_by, Answered, answer, step}
-use Rattle.conduct.specs.History.{Entry, entry, history, session_after, accepted, is_tick, ticks}
+use Rattle.conduct.specs.History.{Entry, entry, history, session_after, is_tick, ticks}
 use Rattle.conduct.specs.declared.State.{State}
 use Rattle.conduct.specs.declared.State.TheVariants.{Waiting, Connecting, Opening, Confirming, Up, Stopped}
 use Rattle.conduct.specs.declared.Call.{Call}
@@ -30,15 +29,15 @@ use Rattle.conduct.proofs.Acted.{acted_onward, placed}
 -- ---- any call that is no tick
 
 connecting_is : (state : State) → is_connecting state ≡ true → state ≡ Connecting
-connecting_is (Waiting left) h = absurd (true_false h refl)
+connecting_is (Waiting left) h = cc
 connecting_is Connecting h = refl
-connecting_is (Opening age) h = absurd (true_false h refl)
-connecting_is (Confirming number age) h = absurd (true_false h refl)
-connecting_is (Up waiting age) h = absurd (true_false h refl)
-connecting_is Stopped h = absurd (true_false h refl)
+connecting_is (Opening age) h = cc
+connecting_is (Confirming number age) h = cc
+connecting_is (Up waiting age) h = cc
+connecting_is Stopped h = cc
 
 losing_from : (state : State) → (is_connecting state || is_linked state) ≡ true → 1 < state_number state
-losing_from (Waiting left) h = absurd (true_false h refl)
+losing_from (Waiting left) h = cc
 losing_from Connecting h = omega arith
 losing_from (Opening age) h = omega arith
 losing_from (Confirming number age) h = omega arith
@@ -54,7 +53,7 @@ stop_stops (Up waiting age) = (refl, refl)
 stop_stops Stopped = (refl, refl)
 
 onward : (s : Session) (c : Call) → refusal_of s c ≡ 0 → is_tick c ≡ false → Onward (next_number s) c s.state (move_of s c)
-onward s calls.Tick a t = absurd (true_false refl t)
+onward s calls.Tick a t = cc
 onward s calls.Connected a t = opens (connecting_is s.state (accepted_fits s calls.Connected a)) refl refl
 onward s calls.Lost a t = ends (losing_from s.state (accepted_fits s calls.Lost a)) refl refl
 onward s calls.Stop a t = stops (stop_stops s.state).0 (stop_stops s.state).1
@@ -96,28 +95,12 @@ by_turns P s c refused led ticked = go (refusal_of s c) refl
 -- a tick where the session is not stopped
 pub tick_taken : (s : Session) (state : State) → s.state ≡ state → is_stopped state ≡ false
     → step s calls.Tick ≡ taken s (tick s.site.interval (next_number s) state)
-tick_taken s state e going =
-    let accepts : refusal_of s calls.Tick ≡ 0 = rw (e, going) in
-    ap (λ (k : ℕ). answer k s calls.Tick) accepts ∙ ap (λ (st : State). taken s (tick s.site.interval (next_number s) st)) e
+tick_taken s state e going = grind (arith, nat_tests)
 
 -- ---- calls one after the other
 
 ticks_more : (s : Session) (c : Call) (xs : List Entry) → ticks (entry s c ∷ xs) ≡ counts c (step s c) + ticks xs
-ticks_more s c xs = go (accepted (entry s c) && is_tick c)
-  where
-    go : (b : Bool)
-        → length (cond b (entry s c ∷ []) [] ++ those (λ (x : Entry). accepted x && is_tick x.call) xs) ≡ cond b 1 0 + ticks xs
-    go true = omega arith
-    go false = omega arith
-
-pub plus_none : (a : ℕ) → a + 0 ≡ a
-plus_none a = omega arith
-
-none_plus : (a : ℕ) → 0 + a ≡ a
-none_plus a = omega arith
-
-plus_more : (a b c d : ℕ) → d ≡ b + c → a + d ≡ (a + b) + c
-plus_more a b c d e = omega arith
+ticks_more s c xs = grind (arith, nat_tests)
 
 -- What holds of a session at `a` ticks, and after a call at those that it counts for, holds after any calls at all their ticks. `Keeps` is what is known of
 -- the entries.
@@ -127,12 +110,12 @@ module _ (Holds : ℕ → Session → Type 0) (Keeps : List Entry → Type 0)
   where
     counting : (cs : List Call) (s : Session) (a : ℕ) → sound s ≡ true → Holds a s → Keeps (history s cs)
         → Holds (a + ticks (history s cs)) (session_after s cs)
-    counting [] s a ok h k = rw (plus_none a) h
+    counting [] s a ok h k = rw (add-zero a) h
     counting (c ∷ cs) s a ok h k =
         let next = one s c (history (step s c).next cs) a ok h k in
-        rw (plus_more a (counts c (step s c)) _ _ (ticks_more s c (history (step s c).next cs)))
+        rw (ticks_more s c (history (step s c).next cs), ← add_assoc)
         (counting cs (step s c).next (a + counts c (step s c)) (sound_step s c ok) next.0 next.1)
 
     pub counted : (cs : List Call) (s : Session) → sound s ≡ true → Holds 0 s → Keeps (history s cs)
         → Holds (ticks (history s cs)) (session_after s cs)
-    counted cs s ok h k = rw (none_plus (ticks (history s cs))) at (counting cs s 0 ok h k)
+    counted cs s ok h k = rw (zero-add (ticks (history s cs))) at (counting cs s 0 ok h k)

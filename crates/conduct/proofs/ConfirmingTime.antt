@@ -6,7 +6,7 @@ use Prim.Native.Nat.{ℕ, suc, ◌+◌, ◌<◌}
 use native.Mathlib.Omega.{arith}
 use lib.Dec.{ltb}
 use borrow.Author.Tests.{ltb-true}
-use Rattle.message.proofs.Laws.{cond_cases}
+use Rattle.std.proofs.lemmas.Bool.{cond_both}
 use Rattle.conduct.specs.Session.{Session, state_number}
 use Rattle.conduct.specs.Sound.{sound_state}
 use Rattle.conduct.specs.Rules.{tick}
@@ -26,7 +26,7 @@ confirming_on : (n interval next a : ℕ) (state : State) → state ≡ Confirmi
     → (tick interval next state).to ≡ Confirming n (a + 1)
 confirming_on n interval next a state e =
     rw e
-    (cond_cases (λ (m : Move). state_number m.to ≡ 4 → m.to ≡ Confirming n (a + 1)) (ltb a 19) (λ l n. refl) (λ l n. absurd (omega arith)))
+    (cond_both (ltb a 19) _ _ (λ (m : Move). state_number m.to ≡ 4 → m.to ≡ Confirming n (a + 1)) (λ l n. refl) (λ l n. absurd (omega arith)))
 
 confirming_quiet : (t : Session) (n a : ℕ) → t.state ≡ Confirming n a → suc a < 20
     → (codes_of (step t calls.Tick).events ≡ []) × (state_number (step t calls.Tick).next.state ≡ 4)

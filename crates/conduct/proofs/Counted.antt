@@ -1,22 +1,20 @@
 -- As many pushes are open as were accepted and not closed: of each call by its parts, and so of any calls. Assumes nothing.
 use mathlib.Core.Path.{◌≡◌, refl, ap, ◌∙◌}
-use mathlib.Core.Bool.{Bool, true, false, not}
+use mathlib.Core.Bool.{Bool, true, false}
 use mathlib.Core.List.{List, [], ◌∷◌, ◌++◌}
-use Prim.Native.Nat.{ℕ, ◌+◌}
+use Prim.Native.Nat.{◌+◌}
 use native.Mathlib.Omega.{arith}
 use lib.ListN.{length, length-append, length-map}
+use Rattle.std.proofs.lemmas.Bool.Decides.{nat_tests}
 use Rattle.conduct.specs.Lists.{flat, only, those, some}
-use Rattle.conduct.specs.Codes.{sending}
-use Rattle.conduct.specs.Numbers.{numbered, all_numbered, next_free}
+use Rattle.conduct.specs.Numbers.{all_numbered, next_free}
 use Rattle.conduct.specs.Pushes.{terms_of, told_by, kept_by, keeps, tells, fate_of}
 use Rattle.conduct.specs.Session.{Session, held}
-use Rattle.conduct.specs.Step.{noted, parting_notes, remark_notes, opens, events_by, moved_by, Answered, step}
+use Rattle.conduct.specs.Step.{parting_notes, remark_notes, opens, events_by, moved_by, Answered, step}
 use Rattle.conduct.specs.History.{first_sending, is_closing, history, events_in}
 use Rattle.conduct.specs.Bounds.{sendings, closed, OpenAreCounted}
 use Rattle.conduct.specs.Order.{acceptance}
 use Rattle.conduct.specs.declared.Event.{Event}
-use Rattle.conduct.specs.declared.Pushed.{Pushed}
-use Rattle.conduct.specs.declared.Pushed.TheVariants.{Response, Advisory}
 use Rattle.conduct.specs.declared.Push.{Push}
 use Rattle.conduct.specs.declared.Sweep.{Sweep}
 use Rattle.conduct.specs.declared.Sweep.TheVariants as sweeps
@@ -31,7 +29,7 @@ use Rattle.conduct.proofs.Lists.{flat_append, none_those}
 use Rattle.conduct.proofs.Sweeps.{Of, fate_of_lem}
 use Rattle.conduct.proofs.Moves.{usual, Usual, stays, departs, by_moves}
 use Rattle.conduct.proofs.Acceptance.{remark_accepts}
-use Rattle.conduct.proofs.Said.{told_fails, parting_fails, remark_fails}
+use Rattle.conduct.proofs.Said.{told_fails}
 
 count_append : (test : Event → Bool) (xs ys : List Event)
     → length (those test (xs ++ ys)) ≡ length (those test xs) + length (those test ys)
@@ -64,21 +62,10 @@ none_sent terms sweep ps = none_counted first_sending (flat (tells terms sweep) 
 parting_count : (s : Session) (parting : Parting)
     → (closed (all_numbered (held s) s.last (parting_notes parting)) ≡ 0)
     × (sendings (all_numbered (held s) s.last (parting_notes parting)) ≡ 0)
-parting_count s parting =
-    let es = all_numbered (held s) s.last (parting_notes parting) in (
-      none_counted is_closing es (parting_fails is_closing (held s) (λ l. refl) parting s.last),
-      none_counted first_sending es (parting_fails first_sending (held s) (λ l. refl) parting s.last),
-    )
-
--- a remark closes none, and sends those that it opens
-sent_open : (s : Session) (what : Pushed) (handle : ℕ) → not (is_closing (numbered (held s) s.last (noted (sending what) handle))) ≡ true
-sent_open s Response handle = refl
-sent_open s Advisory handle = refl
+parting_count s parting = grind (arith, nat_tests)
 
 remark_closes : (s : Session) (remark : Remark) → usual remark ≡ true → closed (all_numbered (held s) s.last (remark_notes remark)) ≡ 0
-remark_closes s remark u =
-    none_counted is_closing (all_numbered (held s) s.last (remark_notes remark))
-    (remark_fails is_closing (held s) s.last refl (λ r. refl) (sent_open s) remark u)
+remark_closes s remark u = grind (arith, nat_tests)
 
 remark_opens : (s : Session) (remark : Remark) → usual remark ≡ true
     → sendings (all_numbered (held s) s.last (remark_notes remark)) ≡ length (opens (next_free (held s) s.last) remark)

@@ -7,7 +7,9 @@ use Prim.Native.Nat.{ℕ, zero, suc, ◌≤◌}
 use native.Mathlib.Omega.{arith}
 use lib.Dec.{eqb, eqb-suc-zero}
 use lib.ListN.{length}
-use Rattle.message.proofs.Laws.{cond_both}
+use Rattle.std.proofs.lemmas.Bool.{and_parts}
+use Rattle.std.proofs.lemmas.Bool.Decides.{nat_tests}
+use Rattle.message.proofs.Laws.{on_either}
 use Rattle.conduct.specs.Lists.{flat, those, some, all}
 use Rattle.conduct.specs.Pushes.{terms_of, opened, kept_by, told_by}
 use Rattle.conduct.specs.Session.{Session, is_up, refusal_of}
@@ -23,7 +25,7 @@ use Rattle.conduct.specs.declared.Event.{Event}
 use Rattle.conduct.specs.declared.Call.{Call}
 use Rattle.conduct.specs.declared.Call.TheVariants as calls
 use Rattle.conduct.specs.declared.Terms.{Terms}
-use Rattle.conduct.proofs.Lists.{both_of, all_append, flat_nothing}
+use Rattle.conduct.proofs.Lists.{all_append, flat_nothing}
 use Rattle.conduct.proofs.Sweeps.{mine}
 use Rattle.conduct.proofs.Calls.{call_told, call_left}
 use Rattle.conduct.proofs.Places.{front, place}
@@ -39,7 +41,7 @@ abbrev Few : List Bearing → Type 0
 Few bs = length bs ≤ 1
 
 few : (n : ℕ) (x : Entry) → Few (bearing n x)
-few n x = cond_both Few (accepted x) (few_call n x.call).0 (omega arith)
+few n x = on_either Few (accepted x) (few_call n x.call).0 (omega arith)
 
 -- ---- one call
 
@@ -105,11 +107,7 @@ Stands xs = all up_at xs ≡ true
 
 -- where the entries up to the next that gives n are all of them, none gives it
 span_whole : (n : ℕ) (x : Entry) (xs : List Entry) → span n (x ∷ xs) ≡ x ∷ xs → (some (gives n) x.events ≡ false) × (span n xs ≡ xs)
-span_whole n x xs e = go (some (gives n) x.events) e
-  where
-    go : (b : Bool) → cond b [] (x ∷ span n xs) ≡ x ∷ xs → (b ≡ false) × (span n xs ≡ xs)
-    go true h = absurd (let z : ◌≡◌ {A = ℕ} 0 1 = cc in omega arith)
-    go false h = (refl, cc)
+span_whole n x xs e = grind (arith, nat_tests)
 
 -- what is said of the pushes ms with the number n
 abbrev Told : Terms → ℕ → List Entry → List Push → Type 0
@@ -119,7 +117,7 @@ tale_told : (terms : Terms) (n : ℕ) (cs : List Call) (s : Session) → terms_o
     → Told terms n (history s cs) (mine n s.pushes)
 tale_told terms n [] s same ok up st own = refl
 tale_told terms n (c ∷ cs) s same ok up st own =
-    let stood = both_of (is_up (entry s c).state) _ st in
+    let stood = and_parts (is_up (entry s c).state) _ st in
     let ungiven = span_whole n (entry s c) (history (step s c).next cs) own in
     let told : sayings n (entry s c) ≡ codes_of (told_in terms (bearing n (entry s c)) (mine n s.pushes)) =
     subst (λ (j : Terms). sayings n (entry s c) ≡ codes_of (told_in j (bearing n (entry s c)) (mine n s.pushes))) same
@@ -135,7 +133,7 @@ tale_told terms n (c ∷ cs) s same ok up st own =
 stands_after : (cs : List Call) (s : Session) → is_up s.state ≡ true → Stands (history s cs) → is_up (session_after s cs).state ≡ true
 stands_after [] s up st = up
 stands_after (c ∷ cs) s up st =
-    let stood = both_of (is_up (entry s c).state) _ st in
+    let stood = and_parts (is_up (entry s c).state) _ st in
     stands_after cs (step s c).next stood.0 stood.1
 
 -- ---- an accepted push
@@ -198,9 +196,9 @@ pub others_say_nothing : OthersSayNothing
 others_say_nothing what most n a b x st =
     let o = begun what most n (a ++ x ∷ b) st in
     let q = place o.made o.session a b x (sym o.is_history) in
-    let stood = both_of (all up_at a) _ (sym (all_append up_at a (x ∷ b)) ∙ st.stands) in
+    let stood = and_parts (all up_at a) _ (sym (all_append up_at a (x ∷ b)) ∙ st.stands) in
     let s : Session = session_after o.session q.0 in
     let ok : sound s ≡ true = reached_is_sound o.session q.0 o.is_sound in
     let up : is_up s.state ≡ true = stands_after q.0 o.session o.is_up_lem (rw q.3 at stood.0) in
     subst⁻¹ (λ (y : Entry). up_at y ≡ true → bearing n y ≡ [] → sayings n y ≡ []) q.4 (entry_quiet n s q.1 ok up)
-    (both_of (up_at x) _ stood.1).0
+    (and_parts (up_at x) _ stood.1).0

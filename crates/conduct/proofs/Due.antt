@@ -1,33 +1,26 @@
 -- What a call says of an open push is what is due: whether a sending is left, and whether a tick is the 20th, is told by its sendings and its age. Assumes nothing.
 use mathlib.Core.Path.{◌≡◌, refl, sym}
-use mathlib.Core.Bool.{Bool, true, false, cond, not, ◌&&◌}
+use mathlib.Core.Bool.{Bool, true, false, cond, not}
 use mathlib.Core.List.{List, [], ◌∷◌}
 use Prim.Native.Nat.{ℕ, ◌+◌, ◌≤◌, ◌<◌}
 use native.Mathlib.Omega.{arith}
-use lib.Dec.{leb, ltb, eqb, leb-suc-zero}
-use borrow.Author.Tests.{ltb-true, ltb-false, lt-ltb, le-ltb, le-leb, leb-true, eqb-true, eq-eqb, not-true}
-use Rattle.laws.proofs.Tests.{iff_same}
-use Rattle.conduct.specs.Pushes.{event_of, older, sent_again, may_go_again, again_or, told_by}
+use lib.Dec.{ltb, eqb, leb-suc-zero}
+use Rattle.std.proofs.lemmas.Bool.Decides.{nat_tests}
+use Rattle.conduct.specs.Pushes.{may_go_again, again_or, told_by}
 use Rattle.conduct.specs.History.{codes_of, Bearing}
 use Rattle.conduct.specs.History.Bearing.{ticked, acknowledged, unreadable_message, advised}
 use Rattle.conduct.specs.Followed.{most_resendings, due_for}
 use Rattle.conduct.specs.declared.Push.{Push}
 use Rattle.conduct.specs.declared.Pushed.{Pushed}
 use Rattle.conduct.specs.declared.Pushed.TheVariants.{Response, Advisory}
-use Rattle.conduct.specs.declared.Fate.TheVariants.{Keep, Again, Close}
 use Rattle.conduct.specs.declared.Terms.{Terms}
-use Rattle.conduct.proofs.Lists.{both, both_of}
 use Rattle.conduct.proofs.Bearings.{fate_in}
 use Rattle.conduct.proofs.Turns.{fate_after}
 
 -- ---- under any terms
 
 again_says : (terms : Terms) (code : ℕ) (q : Push) → codes_of (told_by (again_or terms code q)) ≡ cond (may_go_again terms q) (5 ∷ []) (code ∷ [])
-again_says terms code q = go (may_go_again terms q)
-  where
-    go : (left : Bool) → codes_of (told_by (cond left (Again (sent_again q) (event_of 5 q)) (Close (event_of code q)))) ≡ cond left (5 ∷ []) (code ∷ [])
-    go true = refl
-    go false = refl
+again_says terms code q = grind (arith, nat_tests)
 
 -- a tick is the last for an answer, if it does not only make the push older
 abbrev pub is_last_tick : Terms → Push → Bool
@@ -35,12 +28,7 @@ is_last_tick terms q = not (ltb (q.age + 1) terms.ticks)
 
 says_due : (terms : Terms) (q : Push) (bs : List Bearing) → codes_of (told_by (fate_in terms bs q)) ≡ due_for (may_go_again terms q) (is_last_tick terms q) bs
 says_due terms q [] = refl
-says_due terms q (ticked ∷ bs) = go (ltb (q.age + 1) terms.ticks)
-  where
-    go : (younger : Bool)
-        → codes_of (told_by (cond younger (Keep (older q)) (again_or terms 11 q))) ≡ cond (not younger) (cond (may_go_again terms q) (5 ∷ []) (11 ∷ [])) []
-    go true = refl
-    go false = again_says terms 11 q
+says_due terms q (ticked ∷ bs) = grind (arith, nat_tests)
 says_due terms q (acknowledged ∷ bs) = refl
 says_due terms q (unreadable_message ∷ bs) = again_says terms 10 q
 says_due terms q (advised ∷ bs) = refl
@@ -53,21 +41,10 @@ said_after false terms q bs = refl
 -- ---- under a site's
 
 pub twentieth : (terms : Terms) (q : Push) → terms.ticks ≡ 20 → q.age < 20 → is_last_tick terms q ≡ eqb (q.age + 1) 20
-twentieth terms q ticks young =
-    iff_same _ _
-    (λ last. eq-eqb (q.age + 1) 20 (omega (arith, ltb-false (q.age + 1) terms.ticks (not-true _ last))))
-    (λ is. rw (le-ltb (q.age + 1) terms.ticks (omega (arith, eqb-true (q.age + 1) 20 is))))
+twentieth terms q ticks young = grind (arith, nat_tests)
 
 -- the push was sent again so often, and so once more in all
 pub left_as : (terms : Terms) (q : Push) (what : Pushed) (resent : ℕ) → q.what ≡ what → q.sent ≡ 1 + resent → terms.resends ≤ 3
     → may_go_again terms q ≡ ltb resent (most_resendings terms.resends what)
-left_as terms q Response resent kind sent few = rw kind (iff_same _ _ (λ may. lt-ltb resent terms.resends (omega (arith, goes may))) back)
-  where
-    goes : (leb q.sent terms.resends && leb q.sent 3) ≡ true → q.sent ≤ terms.resends
-    goes may = leb-true _ _ (both_of (leb q.sent terms.resends) _ may).0
-
-    back : ltb resent terms.resends ≡ true → (leb q.sent terms.resends && leb q.sent 3) ≡ true
-    back more =
-        let fewer = ltb-true resent terms.resends more in
-        both (le-leb q.sent terms.resends (omega arith)) (le-leb q.sent 3 (omega arith))
+left_as terms q Response resent kind sent few = rw kind (grind (arith, nat_tests))
 left_as terms q Advisory resent kind sent few = rw kind (sym (leb-suc-zero resent))

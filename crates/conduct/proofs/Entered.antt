@@ -1,17 +1,17 @@
 -- With which ticks a state is entered. Assumes nothing.
+use Rattle.std.specs.Prelude.{Option, None, Some}
 use mathlib.Core.Path.{◌≡◌, refl, sym, ap, ◌∙◌}
 use mathlib.Core.Bool.{Bool, true, false}
 use mathlib.Core.Logic.{◌⊎◌, inl, inr}
 use Prim.Native.Nat.{ℕ, ◌+◌}
 use native.Mathlib.Omega.{arith}
 use lib.Dec.{ltb}
-use Rattle.message.proofs.Laws.{cond_both}
+use Rattle.std.proofs.lemmas.Bool.Decides.{nat_tests}
+use Rattle.message.proofs.Laws.{on_either}
 use Rattle.conduct.specs.Session.{Session, state_number}
 use Rattle.conduct.specs.Rules.{tick, next_number}
 use Rattle.conduct.specs.Step.{events_by, Answered, step}
 use Rattle.conduct.specs.Timers.{says_session_ok, EnteredAfresh}
-use Rattle.conduct.specs.declared.Awaited.{Awaited}
-use Rattle.conduct.specs.declared.Awaited.TheVariants as awaited
 use Rattle.conduct.specs.declared.State.{State}
 use Rattle.conduct.specs.declared.State.TheVariants.{Waiting, Connecting, Opening, Confirming, Up, Stopped}
 use Rattle.conduct.specs.declared.Call.{Call}
@@ -26,73 +26,31 @@ use Rattle.conduct.proofs.Sent.{says_by_lem}
 record Fresh (from to : State) (says : Bool) : Type 0 where
   opening : (age : ℕ) → (state_number from ≡ 3 → ⊥) → to ≡ Opening age → age ≡ 0
   confirming : (n age : ℕ) → (state_number from ≡ 4 → ⊥) → to ≡ Confirming n age → (age ≡ 0) × (says ≡ true)
-  up : (waiting : Awaited) (age : ℕ) → (state_number from ≡ 5 → ⊥) → to ≡ Up waiting age
-      → (waiting ≡ awaited.Nothing) × ((n : ℕ) × (from ≡ Confirming n age))
+  up : (waiting : Option ℕ) (age : ℕ) → (state_number from ≡ 5 → ⊥) → to ≡ Up waiting age
+      → (waiting ≡ None) × ((n : ℕ) × (from ≡ Confirming n age))
   waiting : (left : ℕ) → (state_number from ≡ 1 → ⊥) → to ≡ Waiting left → left ≡ 300
 
 module _ (from to : State) (says : Bool) where
   -- to a state with the same number, which may be older
   alike : state_number to ≡ state_number from → Fresh from to says
-  alike e =
-      record {
-        opening = λ age n f. absurd (n (sym e ∙ ap state_number f));
-        confirming = λ k age n f. absurd (n (sym e ∙ ap state_number f));
-        up = λ waiting age n f. absurd (n (sym e ∙ ap state_number f));
-        waiting = λ left n f. absurd (n (sym e ∙ ap state_number f));
-      }
+  alike e = grind (arith, nat_tests)
 
   -- to each of the four, and elsewhere
   opened : to ≡ Opening 0 → Fresh from to says
-  opened e =
-      record {
-        opening = λ age n f. cc;
-        confirming = λ k age n f. absurd (omega (arith, ap state_number e, ap state_number f));
-        up = λ waiting age n f. absurd (omega (arith, ap state_number e, ap state_number f));
-        waiting = λ left n f. absurd (omega (arith, ap state_number e, ap state_number f));
-      }
+  opened e = grind (arith, nat_tests)
 
   confirmed : (k : ℕ) → to ≡ Confirming k 0 → says ≡ true → Fresh from to says
-  confirmed k e s =
-      record {
-        opening = λ age n f. absurd (omega (arith, ap state_number e, ap state_number f));
-        confirming = λ k age n f. (cc, s);
-        up = λ waiting age n f. absurd (omega (arith, ap state_number e, ap state_number f));
-        waiting = λ left n f. absurd (omega (arith, ap state_number e, ap state_number f));
-      }
+  confirmed k e s = grind (arith, nat_tests)
 
-  came_up : (k age : ℕ) → from ≡ Confirming k age → to ≡ Up awaited.Nothing age → Fresh from to says
-  came_up k age g e =
-      record {
-        opening = λ age' n f. absurd (omega (arith, ap state_number e, ap state_number f));
-        confirming = λ k' age' n f. absurd (omega (arith, ap state_number e, ap state_number f));
-        up = λ waiting age' n f. (cc, (k, cc));
-        waiting = λ left n f. absurd (omega (arith, ap state_number e, ap state_number f));
-      }
+  came_up : (k age : ℕ) → from ≡ Confirming k age → to ≡ Up None age → Fresh from to says
+  came_up k age g e = grind (arith, nat_tests)
 
   ended : to ≡ Waiting 300 → Fresh from to says
-  ended e =
-      record {
-        opening = λ age n f. absurd (omega (arith, ap state_number e, ap state_number f));
-        confirming = λ k age n f. absurd (omega (arith, ap state_number e, ap state_number f));
-        up = λ waiting age n f. absurd (omega (arith, ap state_number e, ap state_number f));
-        waiting = λ left n f. cc;
-      }
+  ended e = grind (arith, nat_tests)
 
   elsewhere : (state_number to ≡ 2) ⊎ (state_number to ≡ 6) → Fresh from to says
-  elsewhere (inl e) =
-      record {
-        opening = λ age n f. absurd (omega (arith, e, ap state_number f));
-        confirming = λ k age n f. absurd (omega (arith, e, ap state_number f));
-        up = λ waiting age n f. absurd (omega (arith, e, ap state_number f));
-        waiting = λ left n f. absurd (omega (arith, e, ap state_number f));
-      }
-  elsewhere (inr e) =
-      record {
-        opening = λ age n f. absurd (omega (arith, e, ap state_number f));
-        confirming = λ k age n f. absurd (omega (arith, e, ap state_number f));
-        up = λ waiting age n f. absurd (omega (arith, e, ap state_number f));
-        waiting = λ left n f. absurd (omega (arith, e, ap state_number f));
-      }
+  elsewhere (inl e) = grind (arith, nat_tests)
+  elsewhere (inr e) = grind (arith, nat_tests)
 
 -- ---- calls
 
@@ -116,27 +74,27 @@ module _ (s : Session) (interval next : ℕ) where
   Ticks from m = Leads s m from
 
   waiting_ticks : (left : ℕ) → Ticks (Waiting left) (tick interval next (Waiting left))
-  waiting_ticks left = cond_both (Ticks (Waiting left)) (ltb 1 left) (alike _ _ _ refl) (elsewhere _ _ _ (inl refl))
+  waiting_ticks left = on_either (Ticks (Waiting left)) (ltb 1 left) (alike _ _ _ refl) (elsewhere _ _ _ (inl refl))
 
   opening_ticks : (age : ℕ) → Ticks (Opening age) (tick interval next (Opening age))
-  opening_ticks age = cond_both (Ticks (Opening age)) (ltb age 19) (alike _ _ _ refl) (ended _ _ _ refl)
+  opening_ticks age = on_either (Ticks (Opening age)) (ltb age 19) (alike _ _ _ refl) (ended _ _ _ refl)
 
   confirming_ticks : (number age : ℕ) → Ticks (Confirming number age) (tick interval next (Confirming number age))
-  confirming_ticks number age = cond_both (Ticks (Confirming number age)) (ltb age 19) (alike _ _ _ refl) (ended _ _ _ refl)
+  confirming_ticks number age = on_either (Ticks (Confirming number age)) (ltb age 19) (alike _ _ _ refl) (ended _ _ _ refl)
 
-  open_ticks : (number age : ℕ) → Ticks (Up (awaited.Ok number) age) (tick interval next (Up (awaited.Ok number) age))
-  open_ticks number age = cond_both (Ticks (Up (awaited.Ok number) age)) (ltb age 19) (alike _ _ _ refl) (ended _ _ _ refl)
+  open_ticks : (number age : ℕ) → Ticks (Up (Some number) age) (tick interval next (Up (Some number) age))
+  open_ticks number age = on_either (Ticks (Up (Some number) age)) (ltb age 19) (alike _ _ _ refl) (ended _ _ _ refl)
 
-  heard_ticks : (age : ℕ) → Ticks (Up awaited.Nothing age) (tick interval next (Up awaited.Nothing age))
-  heard_ticks age = cond_both (Ticks (Up awaited.Nothing age)) (ltb (age + 1) interval) (alike _ _ _ refl) (alike _ _ _ refl)
+  heard_ticks : (age : ℕ) → Ticks (Up None age) (tick interval next (Up None age))
+  heard_ticks age = on_either (Ticks (Up None age)) (ltb (age + 1) interval) (alike _ _ _ refl) (alike _ _ _ refl)
 
   tick_fresh : (state : State) → Ticks state (tick interval next state)
   tick_fresh (Waiting left) = waiting_ticks left
   tick_fresh Connecting = alike _ _ _ refl
   tick_fresh (Opening age) = opening_ticks age
   tick_fresh (Confirming number age) = confirming_ticks number age
-  tick_fresh (Up (awaited.Ok number) age) = open_ticks number age
-  tick_fresh (Up awaited.Nothing age) = heard_ticks age
+  tick_fresh (Up (Some number) age) = open_ticks number age
+  tick_fresh (Up None age) = heard_ticks age
   tick_fresh Stopped = alike _ _ _ refl
 
 pub entered_afresh : EnteredAfresh

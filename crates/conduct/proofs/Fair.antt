@@ -1,36 +1,32 @@
 -- Each accepted call's move is fair: its state's timer is in its range, Up is left with no push open, and a number that it takes is the
 -- next free one. Assumes nothing.
+use Rattle.std.specs.Prelude.{Option, None, Some}
 use mathlib.Core.Path.{◌≡◌, refl, sym, ap, ◌∙◌}
-use mathlib.Core.Bool.{Bool, true, false, cond, ◌&&◌}
+use mathlib.Core.Bool.{Bool, true, false, cond}
 use mathlib.Core.List.{List, [], ◌∷◌}
 use mathlib.Core.Logic.{◌⊎◌, inl, inr}
-use Prim.Native.Nat.{ℕ, ◌+◌, ◌-◌, ◌<◌}
+use Prim.Native.Nat.{ℕ, ◌<◌}
 use native.Mathlib.Omega.{arith}
-use lib.Dec.{leb, ltb, eqb}
+use lib.Dec.{ltb, eqb}
 use lib.ListN.{length}
-use borrow.Author.Tests.{ltb-true, lt-ltb, leb-true, le-leb}
-use Rattle.laws.proofs.Tests.{true_false}
-use Rattle.message.proofs.Laws.{cond_cases, cond_both}
+use borrow.Author.Tests.{ltb-true}
+use Rattle.std.proofs.lemmas.Bool.Decides.{nat_tests}
+use Rattle.message.proofs.Laws.{on_either}
 use Rattle.message.specs.declared.Kind.{Kind}
 use Rattle.message.specs.declared.Kind.TheVariants as kinds
 use Rattle.message.specs.declared.Message.{Message}
-use Rattle.message.specs.declared.Number.{Number}
-use Rattle.message.specs.declared.Number.TheVariants as numbers
 use Rattle.message.specs.declared.Status.{Status}
 use Rattle.message.specs.declared.Status.TheVariants as statuses
 use Rattle.message.specs.declared.Advice.{Advice}
-use Rattle.conduct.specs.Lists.{among}
 use Rattle.conduct.specs.Numbers.{next_free}
 use Rattle.conduct.specs.Pushes.{opened}
-use Rattle.conduct.specs.Session.{Session, is_connecting, is_up, is_stopped, awaited_numbers, session_ok_numbers, push_numbers, held}
+use Rattle.conduct.specs.Session.{Session, is_connecting, is_up, is_stopped, session_ok_numbers, held}
 use Rattle.conduct.specs.Session.{fits, room_for, refusal_of}
 use Rattle.conduct.specs.Table.{action_of}
 use Rattle.conduct.specs.Rules.{goes, waits, leaves, tick, stop, status_by, counted_in, named_by, advice_by, answered, ok_naming, acknowledged}
 use Rattle.conduct.specs.Rules.{advisory_naming, advised_about, next_number, acted, move_of}
 use Rattle.conduct.specs.Step.{opens, last_after_parting}
 use Rattle.conduct.specs.Sound.{sound_state}
-use Rattle.conduct.specs.declared.Awaited.{Awaited}
-use Rattle.conduct.specs.declared.Awaited.TheVariants as awaited
 use Rattle.conduct.specs.declared.State.{State}
 use Rattle.conduct.specs.declared.State.TheVariants.{Waiting, Connecting, Opening, Confirming, Up, Stopped}
 use Rattle.conduct.specs.declared.Push.{Push}
@@ -46,7 +42,6 @@ use Rattle.conduct.specs.declared.Parting.TheVariants as partings
 use Rattle.conduct.specs.declared.Remark.{Remark}
 use Rattle.conduct.specs.declared.Remark.TheVariants as remarks
 use Rattle.conduct.specs.declared.Move.{Move}
-use Rattle.conduct.proofs.Lists.{both, both_of}
 use Rattle.conduct.proofs.Good.{Good}
 
 -- the number that the sending of a push takes, and the pushes that a move opens
@@ -81,8 +76,8 @@ module _ (s : Session) where
       record { to_is = t; leaving = λ f. inr (ap is_up e ∙ (sym u ∙ f)); taking = holds (n ∙ sym (ap session_ok_numbers e)) o }
 
   rests : (age : ℕ) (remark : Remark) → ltb age s.site.interval ≡ true → opens (next_number s) remark ≡ []
-      → Fair s (goes (Up awaited.Nothing age) remark)
-  rests age remark t o = record { to_is = t; leaving = λ f. absurd (true_false refl f); taking = frees refl o }
+      → Fair s (goes (Up None age) remark)
+  rests age remark t o = record { to_is = t; leaving = λ f. cc; taking = frees refl o }
 
   away : (to : State) (parting : Parting) → sound_state s.site.interval to ≡ true → session_ok_numbers to ≡ [] → Fair s (leaves to parting)
   away to parting t n = record { to_is = t; leaving = λ e. inl refl; taking = frees n refl }
@@ -90,36 +85,13 @@ module _ (s : Session) where
   waits_fair : (parting : Parting) → Fair s (waits parting)
   waits_fair parting = away (Waiting 300) parting refl refl
 
-  -- the 20th tick has not come
-  not_yet : (age : ℕ) → ltb age 19 ≡ true → ltb (age + 1) 20 ≡ true
-  not_yet age l = let a = ltb-true age 19 l in lt-ltb (age + 1) 20 (omega arith)
-
   tick_fair : (state : State) → s.state ≡ state → sound_state s.site.interval state ≡ true → Fair s (tick s.site.interval (next_number s) state)
-  tick_fair (Waiting left) e t =
-      cond_cases (Fair s) (ltb 1 left) (λ l. alike e (Waiting (left - 1)) sweeps.Still remarks.Nothing (fewer l) refl refl refl)
-      (λ l. alike e Connecting sweeps.Still _ refl refl refl refl)
-    where
-      fewer : ltb 1 left ≡ true → (leb 1 (left - 1) && leb (left - 1) 300) ≡ true
-      fewer l =
-          let a = ltb-true 1 left l in
-          let b = leb-true left 300 (both_of (leb 1 left) (leb left 300) t).1 in
-          both (le-leb 1 (left - 1) (omega arith)) (le-leb (left - 1) 300 (omega arith))
+  tick_fair (Waiting left) e t = grind (arith, nat_tests)
   tick_fair Connecting e t = alike e Connecting sweeps.Still remarks.Nothing refl refl refl refl
-  tick_fair (Opening age) e t =
-      cond_cases (Fair s) (ltb age 19) (λ l. alike e (Opening (age + 1)) sweeps.Still remarks.Nothing (not_yet age l) refl refl refl)
-      (λ l. waits_fair _)
-  tick_fair (Confirming number age) e t =
-      cond_cases (Fair s) (ltb age 19)
-      (λ l. alike e (Confirming number (age + 1)) sweeps.Still remarks.Nothing (not_yet age l) refl refl refl)
-      (λ l. waits_fair _)
-  tick_fair (Up (awaited.Ok number) age) e t =
-      cond_cases (Fair s) (ltb age 19)
-      (λ l. alike e (Up (awaited.Ok number) (age + 1)) sweeps.Older remarks.Nothing (not_yet age l) refl refl refl)
-      (λ l. waits_fair _)
-  tick_fair (Up awaited.Nothing age) e t =
-      cond_cases (Fair s) (ltb (age + 1) s.site.interval)
-      (λ l. alike e (Up awaited.Nothing (age + 1)) sweeps.Older remarks.Nothing l refl refl refl)
-      (λ l. record { to_is = refl; leaving = λ f. absurd (true_false refl f); taking = sends refl refl })
+  tick_fair (Opening age) e t = grind (arith, nat_tests)
+  tick_fair (Confirming number age) e t = grind (arith, nat_tests)
+  tick_fair (Up (Some number) age) e t = grind (arith, nat_tests)
+  tick_fair (Up None age) e t = grind (arith, nat_tests)
   tick_fair Stopped e t = alike e Stopped sweeps.Still remarks.Nothing refl refl refl refl
 
   stop_fair : (state : State) → Fair s (stop state)
@@ -160,29 +132,20 @@ module _ (s : Session) where
 
     -- less than 20 ticks are less than the interval
     within : (age : ℕ) → ltb age 20 ≡ true → ltb age s.site.interval ≡ true
-    within age t =
-        let a = ltb-true age 20 t in
-        let b = leb-true 21 s.site.interval (both_of (leb 21 s.site.interval) (leb s.site.interval 6000) g.interval_is).0 in
-        lt-ltb age s.site.interval (omega arith)
-
-    rested : (waiting : Awaited) (age : ℕ) → sound_state s.site.interval (Up waiting age) ≡ true → ltb age s.site.interval ≡ true
-    rested awaited.Nothing age t = t
-    rested (awaited.Ok n) age t = within age t
+    within age t = grind (arith, nat_tests)
 
     ok_fair : (n : ℕ) (state : State) → s.state ≡ state → sound_state s.site.interval state ≡ true → Fair s (ok_naming s n state)
     ok_fair n (Waiting left) e t = same (Waiting left) e _ _ refl
     ok_fair n Connecting e t = same Connecting e _ _ refl
     ok_fair n (Opening age) e t = same (Opening age) e _ _ refl
     ok_fair n (Confirming number age) e t =
-        cond_both (Fair s) (eqb n number) (rests age _ (within age t) refl) (same (Confirming number age) e _ _ refl)
-    ok_fair n (Up waiting age) e t =
-        cond_both (Fair s) (among n (awaited_numbers waiting)) (rests age _ (rested waiting age t) refl)
-        (cond_both (Fair s) (among n (push_numbers s.pushes)) (same (Up waiting age) e _ _ refl) (same (Up waiting age) e _ _ refl))
+        on_either (Fair s) (eqb n number) (rests age _ (within age t) refl) (same (Confirming number age) e _ _ refl)
+    ok_fair n (Up waiting age) e t = grind (arith, nat_tests)
     ok_fair n Stopped e t = same Stopped e _ _ refl
 
-    acknowledged_fair : (number : Number) → Fair s (acknowledged s number)
-    acknowledged_fair numbers.Nothing = same s.state refl _ _ refl
-    acknowledged_fair (numbers.Names n) = ok_fair n s.state refl g.state_is
+    acknowledged_fair : (number : Option ℕ) → Fair s (acknowledged s number)
+    acknowledged_fair None = same s.state refl _ _ refl
+    acknowledged_fair (Some n) = ok_fair n s.state refl g.state_is
 
     advisory_fair : (advice : Advice) (n : ℕ) (state : State) → s.state ≡ state → sound_state s.site.interval state ≡ true
         → Fair s (advisory_naming s advice n state)
@@ -190,23 +153,21 @@ module _ (s : Session) where
     advisory_fair advice n Connecting e t = same Connecting e _ _ refl
     advisory_fair advice n (Opening age) e t = same (Opening age) e _ _ refl
     advisory_fair advice n (Confirming number age) e t =
-        cond_both (Fair s) (eqb n number) (waits_fair _) (same (Confirming number age) e _ _ refl)
-    advisory_fair advice n (Up waiting age) e t =
-        cond_both (Fair s) (among n (awaited_numbers waiting)) (rests age _ (rested waiting age t) refl)
-        (cond_both (Fair s) (among n (push_numbers s.pushes)) (same (Up waiting age) e _ _ refl) (same (Up waiting age) e _ _ refl))
+        on_either (Fair s) (eqb n number) (waits_fair _) (same (Confirming number age) e _ _ refl)
+    advisory_fair advice n (Up waiting age) e t = grind (arith, nat_tests)
     advisory_fair advice n Stopped e t = same Stopped e _ _ refl
 
-    advised_about_fair : (advice : Advice) (number : Number) → Fair s (advised_about s advice number)
-    advised_about_fair advice numbers.Nothing = same s.state refl _ _ refl
-    advised_about_fair advice (numbers.Names n) = advisory_fair advice n s.state refl g.state_is
+    advised_about_fair : (advice : Advice) (number : Option ℕ) → Fair s (advised_about s advice number)
+    advised_about_fair advice None = same s.state refl _ _ refl
+    advised_about_fair advice (Some n) = advisory_fair advice n s.state refl g.state_is
 
     acted_fair : (m : Message) (action : Action) → (action ≡ actions.Answer → is_up s.state ≡ false) → Fair s (acted s m action)
     acted_fair m actions.OutOfPlace h = same s.state refl _ _ refl
     acted_fair m actions.Answer h = answered_fair (counted_in s.site.conduct (status_by m.status)) (h refl)
     acted_fair m actions.Acknowledge h = acknowledged_fair (named_by m.in_response_to)
     acted_fair m actions.Advise h =
-        cond_both (Fair s) m.in_relation_to.there
-        (advised_about_fair (advice_by m.advisory_type) m.in_relation_to.number)
+        on_either (Fair s) m.in_relation_to.there
+        (advised_about_fair (advice_by m.advisory_type) m.in_relation_to.meaning)
         (same s.state refl _ _ refl)
     acted_fair m actions.Request h = same s.state refl _ _ refl
 

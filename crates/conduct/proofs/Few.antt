@@ -1,10 +1,11 @@
 -- At most 34 events come from a call: one for each of 32 open pushes, and at most two more. Assumes nothing.
 use mathlib.Core.Path.{◌≡◌, refl, ap}
-use mathlib.Core.Bool.{Bool, true, false}
+use mathlib.Core.Bool.{true}
 use mathlib.Core.List.{List, [], ◌∷◌, ◌++◌}
 use Prim.Native.Nat.{ℕ, suc, ◌+◌, ◌≤◌}
 use native.Mathlib.Omega.{arith}
 use lib.ListN.{length, length-append}
+use Rattle.std.proofs.lemmas.Bool.Decides.{nat_tests}
 use Rattle.conduct.specs.Lists.{flat}
 use Rattle.conduct.specs.Numbers.{Note, last_after, all_numbered}
 use Rattle.conduct.specs.Pushes.{terms_of, told_by, tells, fate_of}
@@ -17,7 +18,6 @@ use Rattle.conduct.specs.declared.Sweep.TheVariants as sweeps
 use Rattle.conduct.specs.declared.Fate.{Fate}
 use Rattle.conduct.specs.declared.Fate.TheVariants.{Keep, Again, Close}
 use Rattle.conduct.specs.declared.Parting.{Parting}
-use Rattle.conduct.specs.declared.Parting.TheVariants as partings
 use Rattle.conduct.specs.declared.Move.{Move}
 use Rattle.conduct.specs.declared.Terms.{Terms}
 use Rattle.conduct.proofs.Lists.{length_flat_le}
@@ -37,21 +37,10 @@ length_numbered : (hs : List ℕ) (last : ℕ) (notes : List Note) → length (a
 length_numbered hs last [] = refl
 length_numbered hs last (note ∷ notes) = ap suc (length_numbered hs (last_after hs last note) notes)
 
-parting_few : (parting : Parting) → length (parting_notes parting) ≤ 3
-parting_few partings.Nothing = omega arith
-parting_few partings.Disconnect = omega arith
-parting_few partings.GoingOut = omega arith
-parting_few partings.Alert = omega arith
-
 -- three are said only where no push is open
 departing : (s : Session) (parting : Parting) → Good s → (is_up s.state ≡ true → length (parting_notes parting) ≤ 2)
     → length (parting_notes parting) + length s.pushes ≤ 34
-departing s parting g few = go (is_up s.state) few g.quiet
-  where
-    go : (b : Bool) → (b ≡ true → length (parting_notes parting) ≤ 2) → (b ≡ false → s.pushes ≡ [])
-        → length (parting_notes parting) + length s.pushes ≤ 34
-    go true two none_open = omega (arith, two refl, g.room)
-    go false two none_open = omega (arith, ap length (none_open refl), parting_few parting)
+departing s parting g few = grind (arith, nat_tests)
 
 move_few : (s : Session) (m : Move) → Good s → Usual s.state m → length (events_by s m) ≤ 34
 move_few s m g (stays to sweep remark stay lost said ok) =

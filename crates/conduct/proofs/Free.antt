@@ -10,7 +10,7 @@ use native.Mathlib.Nat.{eq-or-lt_of_le}
 use lib.Dec.{eqb}
 use lib.ListN.{length}
 use borrow.Author.Tests.{ne_eqb, eqb-true}
-use Rattle.laws.proofs.Tests.{never, true_false}
+use Rattle.std.proofs.lemmas.Bool.{false_from_ne_true}
 use Rattle.conduct.specs.Lists.{those, among}
 use Rattle.conduct.specs.Numbers.{after, free_from, next_free}
 use Rattle.conduct.specs.Order.{past, NextAfter}
@@ -23,7 +23,7 @@ without n held = those (λ (m : ℕ). not (eqb n m)) held
 
 -- one that is held takes at least one away
 without_less : (n : ℕ) (held : List ℕ) → among n held ≡ true → length (without n held) < length held
-without_less n [] h = absurd (true_false h refl)
+without_less n [] h = cc
 without_less n (m ∷ held) h = go (eqb n m) h (λ e. without_less n held e)
   where
     go : (b : Bool) → (b || among n held) ≡ true → (among n held ≡ true → length (without n held) < length held)
@@ -84,7 +84,7 @@ module _ (n : ℕ) where
 
   -- a search that may pass as many as are held ends at a free one
   free_at_lem : (held : List ℕ) (m : ℕ) → length held < 2 ^ 32 → Found held (length held) 0 m → among m held ≡ false
-  free_at_lem held m h f = ⊎_elim (λ q. q) (λ q. never (among m held) (λ t. full q t)) f.ends
+  free_at_lem held m h f = ⊎_elim (λ q. q) (λ q. false_from_ne_true (among m held) (λ t. full q t)) f.ends
     where
       full : f.at ≡ 0 + length held → among m held ≡ true → ⊥
       full e t =

@@ -4,9 +4,8 @@ use mathlib.Core.Path.{◌≡◌, refl, sym, ap, subst, ◌∙◌}
 use mathlib.Core.Bool.{true}
 use mathlib.Core.List.{List, [], ◌∷◌}
 use Prim.Native.Nat.{ℕ, zero, suc}
-use native.Mathlib.Omega.{arith}
 use borrow.Author.Tests.{eq-eqb}
-use Rattle.laws.proofs.Tests.{neither}
+use Rattle.std.proofs.lemmas.Bool.{or_parts}
 use Rattle.conduct.specs.Lists.{flat, only, among}
 use Rattle.conduct.specs.Pushes.{terms_of, opened, tells, keeps}
 use Rattle.conduct.specs.Session.{Session, is_up, push_numbers, session_ok_numbers, refusal_of}
@@ -37,7 +36,7 @@ none_before : (s : Session) → sound s ≡ true → mine (next_number s) s.push
 none_before s ok =
     let n : ℕ = next_number s in
     let free = among_append n (session_ok_numbers s.state) (push_numbers s.pushes) in
-    none_mine n s.pushes (neither (among n (session_ok_numbers s.state)) _ (sym free ∙ next_number_free {s = s} (good ok))).1
+    none_mine n s.pushes (or_parts (among n (session_ok_numbers s.state)) _ (sym free ∙ next_number_free {s = s} (good ok))).1
 
 give_mine : (s : Session) (what : Pushed) (h : ℕ) → sound s ≡ true
     → mine (next_number s) (moved_by s (move_of s (calls.Push what h))).pushes ≡ opened what (next_number s) h ∷ []
@@ -73,4 +72,4 @@ said_sent s what h n ok e = go (refusal_of s (calls.Push what h)) refl e
         number_of : List Event → ℕ
         number_of [] = 0
         number_of (x ∷ xs) = x.number
-    go (suc k) z e = absurd (let z : ◌≡◌ {A = ℕ} 0 1 = cc in omega arith)
+    go (suc k) z e = cc

@@ -1,25 +1,26 @@
 -- What the test of specs/Sound says of a session, fact by fact; and that the next number of such a session is free.
 -- Assumes nothing.
-use mathlib.Core.Path.{◌≡◌, refl}
+use Rattle.std.specs.Prelude.{Option, None, Some}
+use mathlib.Core.Path.{◌≡◌}
 use mathlib.Core.Bool.{Bool, true, false, ◌||◌}
 use mathlib.Core.List.{List, []}
 use Prim.Native.Nat.{ℕ, ◌≤◌}
 use native.Mathlib.Omega.{arith}
 use lib.Dec.{leb, eqb}
 use lib.ListN.{length, length-append, length-map}
-use borrow.Author.Tests.{leb-true, le-leb, eqb-true}
+use borrow.Author.Tests.{leb-true, eqb-true}
+use Rattle.std.proofs.lemmas.Bool.{and_parts}
+use Rattle.std.proofs.lemmas.List.{nil_from_length}
+use Rattle.std.proofs.lemmas.Bool.Decides.{nat_tests}
 use Rattle.conduct.specs.Lists.{all, among, distinct}
 use Rattle.conduct.specs.Numbers.{next_free}
 use Rattle.conduct.specs.Pushes.{terms_of}
 use Rattle.conduct.specs.Session.{Session, allowed_interval, allowed_resends, is_up, awaited_numbers, session_ok_numbers, held}
 use Rattle.conduct.specs.Sound.{sound_state, sound_push, sound}
 use Rattle.conduct.specs.Rules.{next_number}
-use Rattle.conduct.specs.declared.Awaited.{Awaited}
-use Rattle.conduct.specs.declared.Awaited.TheVariants as awaited
 use Rattle.conduct.specs.declared.State.{State}
 use Rattle.conduct.specs.declared.State.TheVariants.{Waiting, Connecting, Opening, Confirming, Up, Stopped}
 use Rattle.conduct.specs.declared.Push.{Push}
-use Rattle.conduct.proofs.Lists.{both, both_of, length_none}
 use Rattle.conduct.proofs.Free.{next_is_free}
 
 pub record Good (s : Session) : Type 0 where
@@ -36,20 +37,16 @@ pub record Good (s : Session) : Type 0 where
 
 quiet_of : (b : Bool) (ps : List Push) → (b || eqb (length ps) 0) ≡ true → b ≡ false → ps ≡ []
 quiet_of true ps h e = cc
-quiet_of false ps h e = length_none ps (eqb-true (length ps) 0 h)
-
-of_quiet : (b : Bool) (ps : List Push) → (b ≡ false → ps ≡ []) → (b || eqb (length ps) 0) ≡ true
-of_quiet true ps h = refl
-of_quiet false ps h = rw (h refl)
+quiet_of false ps h e = nil_from_length ps (eqb-true (length ps) 0 h)
 
 pub good : {s : Session} → sound s ≡ true → Good s
 good {s} h =
-    let a = both_of (allowed_interval s.site.interval) _ h in
-    let z = both_of (allowed_resends s.site.resends) _ a.1 in
-    let b = both_of (sound_state s.site.interval s.state) _ z.1 in
-    let c = both_of (leb (length s.pushes) 32) _ b.1 in
-    let d = both_of (is_up s.state || eqb (length s.pushes) 0) _ c.1 in
-    let e = both_of (all (sound_push (terms_of s.site)) s.pushes) _ d.1 in
+    let a = and_parts (allowed_interval s.site.interval) _ h in
+    let z = and_parts (allowed_resends s.site.resends) _ a.1 in
+    let b = and_parts (sound_state s.site.interval s.state) _ z.1 in
+    let c = and_parts (leb (length s.pushes) 32) _ b.1 in
+    let d = and_parts (is_up s.state || eqb (length s.pushes) 0) _ c.1 in
+    let e = and_parts (all (sound_push (terms_of s.site)) s.pushes) _ d.1 in
     record {
       interval_is = a.0;
       resends_is = z.0;
@@ -61,19 +58,13 @@ good {s} h =
     }
 
 pub sound_of : {s : Session} → Good s → sound s ≡ true
-sound_of {s} g =
-    both g.interval_is
-    (both g.resends_is
-    (both g.state_is
-    (both (le-leb _ 32 g.room)
-    (both (of_quiet (is_up s.state) s.pushes g.quiet)
-    (both g.pushes_are g.numbers_are)))))
+sound_of {s} g = grind (arith, nat_tests)
 
 -- ---- at most 33 numbers are held
 
-few_awaited : (w : Awaited) → length (awaited_numbers w) ≤ 1
-few_awaited awaited.Nothing = omega arith
-few_awaited (awaited.Ok n) = omega arith
+few_awaited : (w : Option ℕ) → length (awaited_numbers w) ≤ 1
+few_awaited None = omega arith
+few_awaited (Some n) = omega arith
 
 few_oks : (state : State) → length (session_ok_numbers state) ≤ 1
 few_oks (Waiting left) = omega arith

@@ -7,7 +7,8 @@ use native.Mathlib.Omega.{arith}
 use lib.Dec.{eqb}
 use lib.ListN.{length, length-append}
 use borrow.Author.Tests.{eq-eqb}
-use Rattle.laws.proofs.Tests.{neither, true_false}
+use Rattle.std.proofs.lemmas.Bool.{both_ways, or_parts}
+use Rattle.std.proofs.lemmas.List.{nil_from_length}
 use Rattle.conduct.specs.Lists.{flat, some}
 use Rattle.conduct.specs.Numbers.{all_numbered}
 use Rattle.conduct.specs.Pushes.{terms_of, tells}
@@ -25,7 +26,7 @@ use Rattle.conduct.specs.declared.Remark.{Remark}
 use Rattle.conduct.specs.declared.Remark.TheVariants as remarks
 use Rattle.conduct.specs.declared.Move.{Move}
 use Rattle.conduct.specs.declared.Terms.{Terms}
-use Rattle.conduct.proofs.Lists.{some_append, length_none}
+use Rattle.conduct.proofs.Lists.{some_append}
 use Rattle.conduct.proofs.Moves.{is_session_ok, Usual, stays, departs, by_moves}
 use Rattle.conduct.proofs.Said.{told_fails, parting_fails, remark_short}
 
@@ -45,16 +46,16 @@ abbrev Ends : List Event → Type 0
 Ends es = (a b : List Event) (e : Event) → es ≡ a ++ e ∷ b → e.code ≡ 3 → b ≡ []
 
 ends_one : (es : List Event) → length es ≤ 1 → Ends es
-ends_one es h a b e q t = length_none b (omega (arith, ap length q, length-append a (e ∷ b)))
+ends_one es h a b e q t = nil_from_length b (omega (arith, ap length q, length-append a (e ∷ b)))
 
 ends_after : (xs ys : List Event) → some is_heartbeat xs ≡ false → Ends ys → Ends (xs ++ ys)
 ends_after [] ys n h a b e q t = h a b e q t
 ends_after (x ∷ xs) ys n h [] b e q t =
     let same : x ≡ e = cc in
-    absurd (true_false (eq-eqb x.code 3 (ap (λ (y : Event). y.code) same ∙ t)) (neither (is_heartbeat x) _ n).0)
+    absurd (both_ways _ (or_parts (is_heartbeat x) _ n).0 (eq-eqb x.code 3 (ap (λ (y : Event). y.code) same ∙ t)))
 ends_after (x ∷ xs) ys n h (y ∷ a) b e q t =
     let rest : xs ++ ys ≡ a ++ e ∷ b = cc in
-    ends_after xs ys (neither (is_heartbeat x) _ n).1 h a b e rest t
+    ends_after xs ys (or_parts (is_heartbeat x) _ n).1 h a b e rest t
 
 pub heartbeat_last : HeartbeatLast
 heartbeat_last s c =
@@ -81,7 +82,7 @@ remark_sends hs last (remarks.Send Advisory handle) h = h
 pub one_session_ok_lem : OneSessionOk
 one_session_ok_lem s c sound =
     by_moves (λ (a : Answered). some is_heartbeat a.events ≡ true → session_ok_numbers s.state ≡ []) s c moved
-    (λ k h. absurd (true_false h refl))
+    (λ k h. cc)
   where
     moved : (m : Move) → Usual s.state m → some is_heartbeat (events_by s m) ≡ true → session_ok_numbers s.state ≡ []
     moved m (stays to sweep remark stay lost said ok) h =
@@ -91,4 +92,4 @@ one_session_ok_lem s c sound =
         let told = flat (tells (terms_of s.site) sweeps.Lost) s.pushes in
         let e = some_append is_heartbeat (all_numbered (held s) s.last (parting_notes parting)) (told ++ []) in
         let f = some_append is_heartbeat told [] in
-        absurd (true_false h (e ∙ rw (parting_none (held s) parting s.last, f, told_none (terms_of s.site) sweeps.Lost s.pushes)))
+        absurd (both_ways _ (e ∙ rw (parting_none (held s) parting s.last, f, told_none (terms_of s.site) sweeps.Lost s.pushes)) h)

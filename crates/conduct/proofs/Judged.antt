@@ -1,16 +1,19 @@
 -- What a message does to the one push that it names, among the others. Assumes nothing.
+use Rattle.std.specs.Prelude.{Option}
 use mathlib.Core.Path.{◌≡◌, refl, sym, ap, ◌∙◌, subst⁻¹}
-use mathlib.Core.Bool.{Bool, true, false, cond}
+use mathlib.Core.Bool.{Bool, true, false}
 use mathlib.Core.List.{List, [], ◌∷◌, ◌++◌, map, append-nil}
-use Prim.Native.Nat.{ℕ, zero, suc, ◌≤◌}
+use Prim.Native.Nat.{ℕ, ◌≤◌}
 use native.Mathlib.Omega.{arith}
 use lib.Dec.{leb, eqb}
 use borrow.Author.Tests.{eq-eqb, leb-true}
-use Rattle.laws.proofs.Tests.{true_false, neither}
+use Rattle.std.proofs.lemmas.Bool.{and_parts, both_ways, or_parts}
+use Rattle.std.proofs.lemmas.List.{map-append}
+use Rattle.std.proofs.lemmas.Bool.Decides.{nat_tests}
 use Rattle.message.specs.declared.Advice.{Advice}
 use Rattle.message.specs.declared.Advice.TheVariants.{UnreadableMessage, Other}
 use Rattle.conduct.specs.Lists.{flat, all, among, distinct}
-use Rattle.conduct.specs.Pushes.{terms_of, event_of, sent_again, may_go_again, kept_by, told_by, keeps, tells}
+use Rattle.conduct.specs.Pushes.{terms_of, may_go_again, keeps, tells}
 use Rattle.conduct.specs.Session.{Session, is_up, awaited_numbers, push_numbers}
 use Rattle.conduct.specs.Sound.{sound_push, sound}
 use Rattle.conduct.specs.Step.{step}
@@ -19,15 +22,12 @@ use Rattle.conduct.specs.History.Bearing.{ticked, acknowledged, unreadable_messa
 use Rattle.conduct.specs.Followed.{most_resendings, due_for}
 use Rattle.conduct.specs.Swapped.{Names, UnreadableByItsType, says_of, stays_by, judged}
 use Rattle.conduct.specs.Swapped.{NamedPushJudged}
-use Rattle.conduct.specs.declared.Awaited.{Awaited}
 use Rattle.conduct.specs.declared.Site.{Site}
 use Rattle.conduct.specs.declared.Push.{Push}
 use Rattle.conduct.specs.declared.Call.{Call}
-use Rattle.conduct.specs.declared.Fate.TheVariants.{Again, Close}
 use Rattle.conduct.specs.declared.Terms.{Terms}
-use Rattle.conduct.proofs.Lists.{both_of, flat_append, map_append, all_append, among_append, eqb_sym, distinct_back, distinct_head, distinct_tail}
+use Rattle.conduct.proofs.Lists.{flat_append, all_append, among_append, eqb_sym, distinct_back, distinct_head, distinct_tail}
 use Rattle.conduct.proofs.Good.{good}
-use Rattle.conduct.proofs.Due.{left_as}
 use Rattle.conduct.proofs.Story.{tick_in}
 use Rattle.conduct.proofs.Bearings.{not_awaited_too}
 use Rattle.conduct.proofs.Others.{sweep_by, all_aside, left_by}
@@ -41,17 +41,17 @@ pub unreadable_by_its_type : UnreadableByItsType
 unreadable_by_its_type m = (
   λ h.
       let there = is_there m.advisory_type.there refl h in
-      (there, is_it m.advisory_type.advice refl there h),
+      (there, is_it m.advisory_type.meaning refl there h),
   λ there is. rw (there, is),
 )
   where
     is_there : (there : Bool) → m.advisory_type.there ≡ there → says_unreadable m ≡ true → there ≡ true
     is_there true e h = refl
-    is_there false e h = absurd (true_false h (rw e))
+    is_there false e h = absurd (both_ways _ (rw e) h)
 
-    is_it : (advice : Advice) → m.advisory_type.advice ≡ advice → m.advisory_type.there ≡ true → says_unreadable m ≡ true → advice ≡ UnreadableMessage
+    is_it : (advice : Advice) → m.advisory_type.meaning ≡ advice → m.advisory_type.there ≡ true → says_unreadable m ≡ true → advice ≡ UnreadableMessage
     is_it UnreadableMessage e there h = refl
-    is_it Other e there h = absurd (true_false h (rw (there, e)))
+    is_it Other e there h = absurd (both_ways _ (rw (there, e)) h)
 
 -- ---- the push alone
 
@@ -65,30 +65,18 @@ module _ (terms : Terms) (p : Push) where
   stays_due : (b : Bearing) → tick_in (b ∷ []) ≡ 0 → keeps terms (sweep_by p.number b) p ≡ flat (stays_by p) (codes b)
   stays_due ticked h = absurd (omega (arith, h))
   stays_due acknowledged h = rw its_own
-  stays_due unreadable_message h = rw its_own (go (may_go_again terms p))
-    where
-      go : (left : Bool) → kept_by (cond left (Again (sent_again p) (event_of 5 p)) (Close (event_of 10 p))) ≡ flat (stays_by p) (cond left (5 ∷ []) (10 ∷ []))
-      go true = refl
-      go false = refl
+  stays_due unreadable_message h = grind (arith, nat_tests)
   stays_due advised h = rw its_own
 
   told_due : (b : Bearing) → tick_in (b ∷ []) ≡ 0 → tells terms (sweep_by p.number b) p ≡ map (says_of p) (codes b)
   told_due ticked h = absurd (omega (arith, h))
   told_due acknowledged h = rw its_own
-  told_due unreadable_message h = rw its_own (go (may_go_again terms p))
-    where
-      go : (left : Bool) → told_by (cond left (Again (sent_again p) (event_of 5 p)) (Close (event_of 10 p))) ≡ map (says_of p) (cond left (5 ∷ []) (10 ∷ []))
-      go true = refl
-      go false = refl
+  told_due unreadable_message h = grind (arith, nat_tests)
   told_due advised h = rw its_own
 
 -- a sending is left just if it may go again
 left_of : (terms : Terms) (p : Push) → terms.resends ≤ 3 → sound_push terms p ≡ true → may_go_again terms p ≡ leb p.sent (most_resendings terms.resends p.what)
-left_of terms p few fit = go p.sent refl
-  where
-    go : (sent : ℕ) → p.sent ≡ sent → may_go_again terms p ≡ leb sent (most_resendings terms.resends p.what)
-    go zero e = absurd (omega (arith, leb-true 1 p.sent (both_of (leb 1 p.sent) _ fit).0))
-    go (suc resent) e = left_as terms p p.what resent refl (e ∙ omega arith) few
+left_of terms p few fit = grind (arith, nat_tests)
 
 -- ---- the push among the others
 
@@ -97,11 +85,11 @@ alone : (n : ℕ) (ms ks : List ℕ) → distinct (ms ++ n ∷ ks) ≡ true → 
 alone n [] ks d = (refl, distinct_head n ks d)
 alone n (m ∷ ms) ks d =
     let rest = alone n ms ks (distinct_tail m (ms ++ n ∷ ks) d) in
-    let e = neither (among m ms) (among m (n ∷ ks)) (sym (among_append m ms (n ∷ ks)) ∙ distinct_head m (ms ++ n ∷ ks) d) in
-    let other = neither (eqb m n) (among m ks) e.1 in
+    let e = or_parts (among m ms) (among m (n ∷ ks)) (sym (among_append m ms (n ∷ ks)) ∙ distinct_head m (ms ++ n ∷ ks) d) in
+    let other = or_parts (eqb m n) (among m ks) e.1 in
     (rw (eqb_sym n m, other.0) rest.0, rest.1)
 
-module _ (site : Site) (last : ℕ) (w : Awaited) (age : ℕ) (before : List Push) (p : Push) (behind : List Push)
+module _ (site : Site) (last : ℕ) (w : Option ℕ) (age : ℕ) (before : List Push) (p : Push) (behind : List Push)
     (ok : sound (up_with site last w age (before ++ p ∷ behind)) ≡ true)
   where
     abbrev n : ℕ
@@ -117,7 +105,7 @@ module _ (site : Site) (last : ℕ) (w : Awaited) (age : ℕ) (before : List Pus
     differ = (good {s = s} ok).numbers_are
 
     numbers : push_numbers (before ++ p ∷ behind) ≡ push_numbers before ++ n ∷ push_numbers behind
-    numbers = map_append (λ (q : Push). q.number) before (p ∷ behind)
+    numbers = map-append (λ (q : Push). q.number) before (p ∷ behind)
 
     pub others : (among n (push_numbers before) ≡ false) × (among n (push_numbers behind) ≡ false)
     others = alone n (push_numbers before) (push_numbers behind) (ap distinct (sym numbers) ∙ distinct_back (awaited_numbers w) _ differ)
@@ -141,8 +129,8 @@ module _ (site : Site) (last : ℕ) (w : Awaited) (age : ℕ) (before : List Pus
     sending_left_lem : may_go_again terms p ≡ leb p.sent (most_resendings site.resends p.what)
     sending_left_lem =
         let g = good {s = s} ok in
-        let later = (both_of (all (sound_push terms) before) _ (sym (all_append (sound_push terms) before (p ∷ behind)) ∙ g.pushes_are)).1 in
-        left_of terms p (leb-true site.resends 3 g.resends_is) (both_of (sound_push terms p) _ later).0
+        let later = (and_parts (all (sound_push terms) before) _ (sym (all_append (sound_push terms) before (p ∷ behind)) ∙ g.pushes_are)).1 in
+        left_of terms p (leb-true site.resends 3 g.resends_is) (and_parts (sound_push terms p) _ later).0
 
     pub judged_up : (a : Call) (x : Names a n) → step s a ≡ judged s before p behind x.bearing
     judged_up a x =
@@ -161,7 +149,7 @@ module _ (site : Site) (last : ℕ) (w : Awaited) (age : ℕ) (before : List Pus
 -- ---- of any session that is up and has the push there
 
 pub in_place : (P : Session → Type 0) (s : Session) (before behind : List Push) (p : Push) → is_up s.state ≡ true → s.pushes ≡ before ++ p ∷ behind
-    → ((w : Awaited) (age : ℕ)
+    → ((w : Option ℕ) (age : ℕ)
     → let t : Session = up_with s.site s.last w age (before ++ p ∷ behind) in
     sound t ≡ true → P t)
     → sound s ≡ true → P s

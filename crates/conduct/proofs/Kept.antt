@@ -3,28 +3,28 @@
 use mathlib.Core.Path.{◌≡◌, refl, ◌∙◌}
 use mathlib.Core.Bool.{true, false}
 use mathlib.Core.List.{List, [], ◌∷◌, ◌++◌}
-use Prim.Native.Nat.{ℕ, ◌+◌, ◌≤◌}
+use Prim.Native.Nat.{ℕ, ◌≤◌, ◌+◌}
 use native.Mathlib.Omega.{arith}
-use lib.Dec.{leb, ltb, eqb}
+use lib.Dec.{eqb, leb}
 use lib.ListN.{length}
 use borrow.Author.Tests.{le-leb, leb-true, ltb-true, lt-ltb}
-use Rattle.laws.proofs.Tests.{neither, true_false}
-use Rattle.message.proofs.Laws.{cond_cases, cond_both}
-use Rattle.conduct.specs.Lists.{flat, all, among, distinct}
-use Rattle.conduct.specs.Pushes.{is_response, may_go_again, older, again_or, fate_of, kept_by, keeps}
-use Rattle.conduct.specs.Session.{push_numbers}
-use Rattle.conduct.specs.Sound.{most_sendings, sound_push}
-use Rattle.conduct.specs.declared.Push.{Push}
 use Rattle.conduct.specs.declared.Pushed.{Pushed}
 use Rattle.conduct.specs.declared.Pushed.TheVariants.{Response, Advisory}
+use Rattle.std.proofs.lemmas.Bool.{and_from, or_parts, and_parts, cond_both}
+use Rattle.std.proofs.lemmas.Bool.Decides.{nat_tests}
+use Rattle.message.proofs.Laws.{on_either}
+use Rattle.conduct.specs.Lists.{flat, all, among, distinct}
+use Rattle.conduct.specs.Pushes.{again_or, fate_of, kept_by, keeps, is_response, may_go_again}
+use Rattle.conduct.specs.Session.{push_numbers}
+use Rattle.conduct.specs.Sound.{sound_push, most_sendings}
+use Rattle.conduct.specs.declared.Push.{Push}
 use Rattle.conduct.specs.declared.Sweep.{Sweep}
 use Rattle.conduct.specs.declared.Sweep.TheVariants.{Still, Older, Lost, Acknowledged, UnreadableMessage, Advised}
 use Rattle.conduct.specs.declared.Fate.{Fate}
 use Rattle.conduct.specs.declared.Fate.TheVariants.{Keep, Again, Close}
 use Rattle.conduct.specs.declared.Terms.{Terms}
-use Rattle.conduct.proofs.Lists.{both, both_of, all_flat, all_implies, length_flat_le, among_append, distinct_head}
+use Rattle.conduct.proofs.Lists.{all_flat, all_implies, length_flat_le, among_append, distinct_head}
 use Rattle.conduct.proofs.Lists.{distinct_tail, distinct_cons}
-use Rattle.conduct.proofs.Sweeps.{Of, fate_of_lem}
 
 -- ---- how many
 
@@ -44,36 +44,29 @@ SoundFate terms f = all (sound_push terms) (kept_by f) ≡ true
 response_again : (terms : Terms) (sent : ℕ) (what : Pushed) → is_response what ≡ true → leb sent terms.resends ≡ true
     → leb (sent + 1) (most_sendings terms what) ≡ true
 response_again terms sent Response e l = le-leb (sent + 1) (terms.resends + 1) (omega (arith, leb-true sent terms.resends l))
-response_again terms sent Advisory e l = absurd (true_false e refl)
+response_again terms sent Advisory e l = cc
 
 -- one that is sent again is less old than the one before, which was young enough
 again_or_sound : (terms : Terms) (code : ℕ) (p : Push) → sound_push terms p ≡ true → SoundFate terms (again_or terms code p)
 again_or_sound terms code p h =
-    cond_cases (SoundFate terms) (may_go_again terms p)
+    cond_both (may_go_again terms p) _ _ (SoundFate terms)
     (λ e.
-    let response = both_of (is_response p.what) _ e in
-    let few = (both_of (leb p.sent terms.resends) _ response.1).0 in
-    let young = ltb-true p.age terms.ticks (both_of (leb p.sent (most_sendings terms p.what)) _ (both_of (leb 1 p.sent) _ h).1).1 in
-    both
-    (both (le-leb 1 (p.sent + 1) (omega arith))
-    (both (response_again terms p.sent p.what response.0 few) (lt-ltb 0 terms.ticks (omega arith))))
+    let response = and_parts (is_response p.what) _ e in
+    let few = (and_parts (leb p.sent terms.resends) _ response.1).0 in
+    let young = ltb-true p.age terms.ticks (and_parts (leb p.sent (most_sendings terms p.what)) _ (and_parts (leb 1 p.sent) _ h).1).1 in
+    and_from _ _
+    (and_from _ _ (le-leb 1 (p.sent + 1) (omega arith))
+    (and_from _ _ (response_again terms p.sent p.what response.0 few) (lt-ltb 0 terms.ticks (omega arith))))
     refl)
     (λ e. refl)
 
 fate_sound : (terms : Terms) (sweep : Sweep) (p : Push) → sound_push terms p ≡ true → SoundFate terms (fate_of terms sweep p)
-fate_sound terms Still p h = both h refl
-fate_sound terms Older p h =
-    cond_cases (SoundFate terms) (ltb (p.age + 1) terms.ticks) (λ e. both (aged e) refl) (λ e. again_or_sound terms _ p h)
-  where
-    aged : ltb (p.age + 1) terms.ticks ≡ true → sound_push terms (older p) ≡ true
-    aged e =
-        let a = both_of (leb 1 p.sent) _ h in
-        let b = both_of (leb p.sent (most_sendings terms p.what)) _ a.1 in
-        both a.0 (both b.0 e)
+fate_sound terms Still p h = and_from _ _ h refl
+fate_sound terms Older p h = grind (arith, nat_tests)
 fate_sound terms Lost p h = refl
-fate_sound terms (Acknowledged n) p h = cond_both (SoundFate terms) (eqb p.number n) refl (both h refl)
-fate_sound terms (UnreadableMessage n) p h = cond_both (SoundFate terms) (eqb p.number n) (again_or_sound terms _ p h) (both h refl)
-fate_sound terms (Advised n) p h = cond_both (SoundFate terms) (eqb p.number n) refl (both h refl)
+fate_sound terms (Acknowledged n) p h = on_either (SoundFate terms) (eqb p.number n) refl (and_from _ _ h refl)
+fate_sound terms (UnreadableMessage n) p h = on_either (SoundFate terms) (eqb p.number n) (again_or_sound terms _ p h) (and_from _ _ h refl)
+fate_sound terms (Advised n) p h = on_either (SoundFate terms) (eqb p.number n) refl (and_from _ _ h refl)
 
 pub kept_sound : (terms : Terms) (sweep : Sweep) (ps : List Push) → all (sound_push terms) ps ≡ true → all (sound_push terms) (flat (keeps terms sweep) ps) ≡ true
 kept_sound terms sweep ps h =
@@ -87,17 +80,12 @@ module _ (terms : Terms) (sweep : Sweep) where
   kept_cases : (p : Push) (ps : List Push) (P : List ℕ → Type 0)
       → P (push_numbers (flat (keeps terms sweep) ps)) → P (p.number ∷ push_numbers (flat (keeps terms sweep) ps))
       → P (push_numbers (flat (keeps terms sweep) (p ∷ ps)))
-  kept_cases p ps P without with_it = go (fate_of terms sweep p) (fate_of_lem terms sweep p)
-    where
-      go : (f : Fate) → Of p f → P (push_numbers (kept_by f ++ flat (keeps terms sweep) ps))
-      go (Keep q) h = rw h.named with_it
-      go (Again q e) h = rw h.0.named with_it
-      go (Close e) h = without
+  kept_cases p ps P without with_it = grind (arith, nat_tests)
 
   kept_among : (n : ℕ) (ps : List Push) → among n (push_numbers ps) ≡ false → among n (push_numbers (flat (keeps terms sweep) ps)) ≡ false
   kept_among n [] h = refl
   kept_among n (p ∷ ps) h =
-      let e = neither (eqb n p.number) (among n (push_numbers ps)) h in
+      let e = or_parts (eqb n p.number) (among n (push_numbers ps)) h in
       let ih = kept_among n ps e.1 in
       kept_cases p ps (λ (ns : List ℕ). among n ns ≡ false) ih (rw e.0 ih)
 
@@ -112,7 +100,7 @@ module _ (terms : Terms) (sweep : Sweep) where
   pub kept_unheld : (n : ℕ) (xs : List ℕ) (ps : List Push) → among n (xs ++ push_numbers ps) ≡ false
       → among n (xs ++ push_numbers (flat (keeps terms sweep) ps)) ≡ false
   kept_unheld n xs ps h =
-      let e = neither (among n xs) (among n (push_numbers ps)) (rw (among_append n xs (push_numbers ps)) at h) in
+      let e = or_parts (among n xs) (among n (push_numbers ps)) (rw (among_append n xs (push_numbers ps)) at h) in
       among_append n xs (push_numbers (flat (keeps terms sweep) ps)) ∙ rw e.0 (kept_among n ps e.1)
 
   pub kept_differ : (xs : List ℕ) (ps : List Push) → distinct (xs ++ push_numbers ps) ≡ true

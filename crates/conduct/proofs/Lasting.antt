@@ -5,8 +5,10 @@ use mathlib.Core.List.{List, [], ◌∷◌, ◌++◌, map}
 use Prim.Native.Nat.{ℕ, suc, ◌+◌, ◌<◌}
 use native.Mathlib.Omega.{arith}
 use lib.Dec.{ltb, eqb}
-use borrow.Author.Tests.{ltb-true, lt-ltb, eqb-true}
-use Rattle.laws.proofs.Tests.{never}
+use borrow.Author.Tests.{eqb-true}
+use Rattle.std.proofs.lemmas.Bool.{and_parts}
+use native.Mathlib.Nat.{add-zero}
+use Rattle.std.proofs.lemmas.Bool.Decides.{nat_tests}
 use Rattle.conduct.specs.Lists.{flat, all}
 use Rattle.conduct.specs.Pushes.{terms_of, tells}
 use Rattle.conduct.specs.Session.{Session, state_number, is_up}
@@ -21,10 +23,10 @@ use Rattle.conduct.specs.declared.Call.{Call}
 use Rattle.conduct.specs.declared.Sweep.TheVariants as sweeps
 use Rattle.conduct.specs.declared.Move.{Move}
 use Rattle.conduct.specs.declared.Terms.{Terms}
-use Rattle.conduct.proofs.Lists.{both_of, flat_nothing}
+use Rattle.conduct.proofs.Lists.{flat_nothing}
 use Rattle.conduct.proofs.Good.{good}
 use Rattle.conduct.proofs.Reached.{reached_is_sound}
-use Rattle.conduct.proofs.Clocks.{counts, by_turns, plus_none, counted}
+use Rattle.conduct.proofs.Clocks.{counts, by_turns, counted}
 use Rattle.conduct.proofs.Onward.{Onward}
 use Rattle.conduct.proofs.Onward.Onward.{same, opens, answers, confirms, hears, ends, stops}
 
@@ -57,7 +59,7 @@ module _ (number : ℕ) (below : number < 5) (Holds : ℕ → State → Type 0)
         own = numbered a s.state h
 
         still : Holds (a + 0) s.state
-        still = rw (plus_none a) h
+        still = rw (add-zero a) h
 
     pub lasting : (cs : List Call) (s : Session) → sound s ≡ true → Holds 0 s.state → stays number s cs
         → Holds (ticks (history s cs)) (session_after s cs).state
@@ -65,7 +67,7 @@ module _ (number : ℕ) (below : number < 5) (Holds : ℕ → State → Type 0)
         counted (λ (a : ℕ) (t : Session). Holds a t.state)
         (λ (xs : List Entry). all (λ (x : Entry). eqb (state_number x.state) number) xs ≡ true)
         (λ t c xs a ok h k.
-        let b = both_of (eqb (state_number (step t c).next.state) number) _ k in
+        let b = and_parts (eqb (state_number (step t c).next.state) number) _ k in
         (one_more t c a h (eqb-true _ number b.0), b.1))
         cs s ok h k
 
@@ -87,7 +89,7 @@ none_open cs s ok e down = (good {s = session_after s cs} (reached_is_sound s cs
 -- ---- a state is over in its 20th tick, and not before
 
 pub not_before : (a : ℕ) → suc a < 20 → ltb a 19 ≡ true
-not_before a h = lt-ltb a 19 (omega arith)
+not_before a h = grind (arith, nat_tests)
 
 pub over : (a : ℕ) → suc a ≡ 20 → ltb a 19 ≡ false
-over a h = never (ltb a 19) (λ e. omega (arith, ltb-true a 19 e))
+over a h = grind (arith, nat_tests)

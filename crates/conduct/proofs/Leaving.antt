@@ -4,8 +4,8 @@ use mathlib.Core.Bool.{Bool, true, false, not}
 use mathlib.Core.List.{List, [], ◌∷◌, ◌++◌, map, append-nil}
 use Prim.Native.Nat.{ℕ, ◌+◌}
 use lib.Dec.{ltb, eqb}
-use Rattle.laws.proofs.Tests.{true_false}
-use Rattle.message.proofs.Laws.{cond_both}
+use Rattle.std.proofs.lemmas.Bool.{both_ways}
+use Rattle.message.proofs.Laws.{on_either}
 use Rattle.conduct.specs.Lists.{flat, some}
 use Rattle.conduct.specs.Codes.{sending}
 use Rattle.conduct.specs.Numbers.{numbered, all_numbered}
@@ -39,12 +39,12 @@ leaving_up_closes s c =
     (λ (a : Answered). is_up s.state ≡ true → is_up a.next.state ≡ false
     → (first : List Event) × (a.events ≡ first ++ map lost_event s.pushes) × (some is_closing first ≡ false) × (a.next.pushes ≡ []))
     s c moved
-    (λ k up down. absurd (true_false up down))
+    (λ k up down. cc)
   where
     moved : (m : Move) → Usual s.state m → is_up s.state ≡ true → is_up m.to ≡ false
         → (first : List Event) × (events_by s m ≡ first ++ map lost_event s.pushes) × (some is_closing first ≡ false)
         × ((moved_by s m).pushes ≡ [])
-    moved m (stays to sweep remark stay lost said ok) up down = absurd (true_false (stay up) down)
+    moved m (stays to sweep remark stay lost said ok) up down = absurd (both_ways _ down (stay up))
     moved m (departs to parting d few) up down =
         let first = all_numbered (held s) s.last (parting_notes parting) in (
           first,
@@ -62,15 +62,15 @@ abbrev Unlost : Fate → Type 0
 Unlost f = some is_lost_event (told_by f) ≡ false
 
 unlost_again : (terms : Terms) (p : Push) (code : ℕ) → eqb code 12 ≡ false → Unlost (again_or terms code p)
-unlost_again terms p code h = cond_both Unlost (may_go_again terms p) refl (rw h)
+unlost_again terms p code h = on_either Unlost (may_go_again terms p) refl (rw h)
 
 unlost : (terms : Terms) (sweep : Sweep) → is_lost sweep ≡ false → (p : Push) → Unlost (fate_of terms sweep p)
 unlost terms sweeps.Still h p = refl
-unlost terms sweeps.Older h p = cond_both Unlost (ltb (p.age + 1) terms.ticks) refl (unlost_again terms p 11 refl)
-unlost terms sweeps.Lost h p = absurd (true_false refl h)
-unlost terms (sweeps.Acknowledged n) h p = cond_both Unlost (eqb p.number n) refl refl
-unlost terms (sweeps.UnreadableMessage n) h p = cond_both Unlost (eqb p.number n) (unlost_again terms p 10 refl) refl
-unlost terms (sweeps.Advised n) h p = cond_both Unlost (eqb p.number n) refl refl
+unlost terms sweeps.Older h p = on_either Unlost (ltb (p.age + 1) terms.ticks) refl (unlost_again terms p 11 refl)
+unlost terms sweeps.Lost h p = cc
+unlost terms (sweeps.Acknowledged n) h p = on_either Unlost (eqb p.number n) refl refl
+unlost terms (sweeps.UnreadableMessage n) h p = on_either Unlost (eqb p.number n) (unlost_again terms p 10 refl) refl
+unlost terms (sweeps.Advised n) h p = on_either Unlost (eqb p.number n) refl refl
 
 sent_unlost : (s : Session) (what : Pushed) (handle : ℕ)
     → not (is_lost_event (numbered (held s) s.last (noted (sending what) handle))) ≡ true
@@ -90,4 +90,4 @@ lost_only_leaving_up s c =
         in
         let none_said = remark_fails is_lost_event (held s) s.last refl (λ r. refl) (sent_unlost s) remark said in
         some_append is_lost_event (flat (tells (terms_of s.site) sweep) s.pushes) says ∙ rw (none_told, none_said)
-    moved m (departs to parting d few) up = absurd (true_false up d)
+    moved m (departs to parting d few) up = cc

@@ -1,4 +1,4 @@
--- The laws about sessions; a promise of specs/ names the files that show it. `Among`, `Lists`, `Loops` and `Free` are about lists and numbers, `Good`, `Moves`,
+-- The laws about sessions; a promise of specs/ names the files that show it. `Among`, `Lists` and `Free` are about lists and numbers, `Good`, `Moves`,
 -- `Fair`, `Kept`, `Said`, `Sweeps` and `Calls` about one call in its parts, `Places` and `Given` about a place in a history. Of a push, `Bearings` says what
 -- becomes of it by what bears on it, `Story` over its life, `Turns` in one call, `Still` while it is open, `Due` what is due of it and `Sayings` what tests find
 -- of it. `Others`, `Named` and `Touched` say what a message that names a number does in Up, `Judged` what it does to one
@@ -7,7 +7,6 @@
 pub mod Among
 pub mod Refused
 pub mod Lists
-pub mod Loops
 pub mod Free
 pub mod Good
 pub mod Sweeps

@@ -2,23 +2,15 @@
 -- Assumes nothing.
 use mathlib.Core.Path.{◌≡◌, refl, sym, ap, ap₂, ◌∙◌}
 use mathlib.Core.Bool.{Bool, true, false, cond, not, ◌&&◌, ◌||◌, and_assoc, or_assoc}
-use mathlib.Core.List.{List, [], ◌∷◌, ◌++◌, map, append-nil, append_assoc}
+use mathlib.Core.List.{List, [], ◌∷◌, ◌++◌, append-nil, append_assoc}
 use Prim.Native.Nat.{ℕ, ◌≤◌}
 use native.Mathlib.Omega.{arith}
 use lib.Dec.{eqb}
 use lib.ListN.{length, length-append}
-use borrow.Author.Tests.{eq-eqb, eqb-true, not-true}
-use Rattle.laws.proofs.Tests.{iff_same, neither}
-use Rattle.message.proofs.Laws.{both_first, both_second}
+use borrow.Author.Tests.{not-true}
+use Rattle.std.proofs.lemmas.Bool.Decides.{nat_tests}
+use Rattle.std.proofs.lemmas.Bool.{and_from, and_parts, or_parts}
 use Rattle.conduct.specs.Lists.{flat, only, those, some, all, among, distinct}
-
--- ---- two tests that both pass
-
-pub both : {a b : Bool} → a ≡ true → b ≡ true → (a && b) ≡ true
-both {a} {b} p q = rw (p, q)
-
-pub both_of : (a b : Bool) → (a && b) ≡ true → (a ≡ true) × (b ≡ true)
-both_of a b e = (both_first a b e, both_second a b e)
 
 -- ---- lists one behind the other
 
@@ -30,10 +22,6 @@ flat_append {B = B} f (x ∷ xs) ys =
 pub flat_flat : {A B C : Type 0} (f : B → List C) (g : A → List B) (xs : List A) → flat f (flat g xs) ≡ flat (λ (x : A). flat f (g x)) xs
 flat_flat f g [] = refl
 flat_flat {C = C} f g (x ∷ xs) = flat_append f (g x) (flat g xs) ∙ ap (λ (ys : List C). flat f (g x) ++ ys) (flat_flat f g xs)
-
-pub map_append : {A B : Type 0} (f : A → B) (xs ys : List A) → map f (xs ++ ys) ≡ map f xs ++ map f ys
-map_append f [] ys = refl
-map_append {B = B} f (x ∷ xs) ys = ap (λ (zs : List B). f x ∷ zs) (map_append f xs ys)
 
 pub some_append : {A : Type 0} (test : A → Bool) (xs ys : List A) → some test (xs ++ ys) ≡ (some test xs || some test ys)
 some_append test [] ys = refl
@@ -61,7 +49,7 @@ flat_nothing f h (x ∷ xs) = ap₂ ◌++◌ (h x) (flat_nothing f h xs)
 pub none_those : {A : Type 0} (test : A → Bool) (xs : List A) → some test xs ≡ false → those test xs ≡ []
 none_those test [] h = refl
 none_those test (x ∷ xs) h =
-    let e = neither (test x) (some test xs) h in
+    let e = or_parts (test x) (some test xs) h in
     rw e.0 (none_those test xs e.1)
 
 pub those_same : {A : Type 0} (q r : A → Bool) → ((x : A) → q x ≡ r x) → (xs : List A) → those q xs ≡ those r xs
@@ -104,12 +92,12 @@ pub all_implies : {A : Type 0} (q r : A → Bool) → ((x : A) → q x ≡ true 
     → all q xs ≡ true → all r xs ≡ true
 all_implies q r h [] e = refl
 all_implies q r h (x ∷ xs) e =
-    let f = both_of (q x) (all q xs) e in
-    both (h x f.0) (all_implies q r h xs f.1)
+    let f = and_parts (q x) (all q xs) e in
+    and_from _ _ (h x f.0) (all_implies q r h xs f.1)
 
 pub all_always : {A : Type 0} (test : A → Bool) → ((x : A) → test x ≡ true) → (xs : List A) → all test xs ≡ true
 all_always test h [] = refl
-all_always test h (x ∷ xs) = both (h x) (all_always test h xs)
+all_always test h (x ∷ xs) = and_from _ _ (h x) (all_always test h xs)
 
 pub some_never : {A : Type 0} (test : A → Bool) → ((x : A) → test x ≡ false) → (xs : List A) → some test xs ≡ false
 some_never test h [] = refl
@@ -129,24 +117,20 @@ length_those {A = A} test xs = length_flat_le (only test) (λ x. go x (test x)) 
     go x true = omega arith
     go x false = omega arith
 
-pub length_none : {A : Type 0} (xs : List A) → length xs ≡ 0 → xs ≡ []
-length_none [] e = refl
-length_none (x ∷ xs) e = absurd (omega arith)
-
 -- ---- numbers among others
 
 pub among_append : (n : ℕ) (xs ys : List ℕ) → among n (xs ++ ys) ≡ (among n xs || among n ys)
 among_append n xs ys = some_append (eqb n) xs ys
 
 pub eqb_sym : (m n : ℕ) → eqb m n ≡ eqb n m
-eqb_sym m n = iff_same (eqb m n) (eqb n m) (λ e. eq-eqb n m (sym (eqb-true m n e))) (λ e. eq-eqb m n (sym (eqb-true n m e)))
+eqb_sym m n = grind (arith, nat_tests)
 
 -- the parts of a list in which no number comes twice
 pub distinct_head : (x : ℕ) (xs : List ℕ) → distinct (x ∷ xs) ≡ true → among x xs ≡ false
-distinct_head x xs h = not-true (among x xs) (both_of (not (among x xs)) (distinct xs) h).0
+distinct_head x xs h = not-true (among x xs) (and_parts (not (among x xs)) (distinct xs) h).0
 
 pub distinct_tail : (x : ℕ) (xs : List ℕ) → distinct (x ∷ xs) ≡ true → distinct xs ≡ true
-distinct_tail x xs h = (both_of (not (among x xs)) (distinct xs) h).1
+distinct_tail x xs h = (and_parts (not (among x xs)) (distinct xs) h).1
 
 pub distinct_cons : (x : ℕ) (xs : List ℕ) → among x xs ≡ false → distinct xs ≡ true → distinct (x ∷ xs) ≡ true
 distinct_cons x xs a d = rw (a, d)
@@ -159,7 +143,7 @@ distinct_back (x ∷ xs) ys h = distinct_back xs ys (distinct_tail x (xs ++ ys) 
 pub distinct_more : (xs : List ℕ) (n : ℕ) → distinct xs ≡ true → among n xs ≡ false → distinct (xs ++ n ∷ []) ≡ true
 distinct_more [] n d a = refl
 distinct_more (x ∷ xs) n d a =
-    let e = neither (eqb n x) (among n xs) a in
+    let e = or_parts (eqb n x) (among n xs) a in
     let other : among x (xs ++ n ∷ []) ≡ false =
     among_append x xs (n ∷ []) ∙ rw (distinct_head x xs d, eqb_sym x n, e.0)
     in

@@ -1,5 +1,6 @@
 -- What the moves of all rules have in common: a move stays, and says at most one thing of its own, or it departs and closes what is open.
 -- Assumes nothing.
+use Rattle.std.specs.Prelude.{Option, None, Some}
 use mathlib.Core.Path.{◌≡◌, refl}
 use mathlib.Core.Bool.{Bool, true, false, ◌&&◌, ◌||◌}
 use mathlib.Core.List.{List, [], ◌∷◌}
@@ -7,17 +8,15 @@ use Prim.Native.Nat.{ℕ, zero, suc, ◌+◌, ◌-◌, ◌≤◌}
 use native.Mathlib.Omega.{arith}
 use lib.Dec.{ltb, eqb}
 use lib.ListN.{length}
-use Rattle.laws.proofs.Tests.{true_false}
+use Rattle.std.proofs.lemmas.Bool.{both_ways}
 use Rattle.message.specs.declared.Kind.{Kind}
 use Rattle.message.specs.declared.Kind.TheVariants as kinds
 use Rattle.message.specs.declared.Message.{Message}
-use Rattle.message.specs.declared.Number.{Number}
-use Rattle.message.specs.declared.Number.TheVariants as numbers
 use Rattle.message.specs.declared.Status.{Status}
 use Rattle.message.specs.declared.Status.TheVariants as statuses
 use Rattle.message.specs.declared.Advice.{Advice}
 use Rattle.message.specs.declared.Advice.TheVariants as advices
-use Rattle.message.proofs.Laws.{cond_both}
+use Rattle.message.proofs.Laws.{on_either}
 use Rattle.conduct.specs.Lists.{among}
 use Rattle.conduct.specs.Codes as codes
 use Rattle.conduct.specs.Session.{Session, is_connecting, is_up, session_ok_numbers, push_numbers, awaited_numbers, refusal_of}
@@ -26,7 +25,6 @@ use Rattle.conduct.specs.Table.{action_at, action_of}
 use Rattle.conduct.specs.Rules.{leaves, note, tick, connected, stop, status_by, counted_in, advice_by, named_by, next_number, acted, move_of}
 use Rattle.conduct.specs.Rules.{answered, matches_nothing, ok_naming, acknowledged, advises, advisory_naming, advised_about}
 use Rattle.conduct.specs.Step.{parting_notes, events_by, moved_by, Answered, answer, step}
-use Rattle.conduct.specs.declared.Awaited.TheVariants as awaited
 use Rattle.conduct.specs.declared.State.{State}
 use Rattle.conduct.specs.declared.State.TheVariants.{Waiting, Connecting, Opening, Confirming, Up, Stopped}
 use Rattle.conduct.specs.declared.Call.{Call}
@@ -77,7 +75,7 @@ module _ (from : State) where
   quietly : (to : State) (sweep : Sweep) (remark : Remark) → (is_up from ≡ true → is_up to ≡ true) → is_lost sweep ≡ false
       → usual remark ≡ true → is_session_ok remark ≡ false
       → Usual from (record { to = to; parting = partings.Nothing; sweep = sweep; remark = remark })
-  quietly to sweep remark up lost said other = stays to sweep remark up lost said (λ e. absurd (true_false e other))
+  quietly to sweep remark up lost said other = stays to sweep remark up lost said (λ e. cc)
 
   in_place : (sweep : Sweep) (remark : Remark) → is_lost sweep ≡ false → usual remark ≡ true → is_session_ok remark ≡ false
       → Usual from (record { to = from; parting = partings.Nothing; sweep = sweep; remark = remark })
@@ -85,24 +83,24 @@ module _ (from : State) where
 
 tick_usual : (interval next : ℕ) (state : State) → Usual state (tick interval next state)
 tick_usual interval next (Waiting left) =
-    cond_both (Usual (Waiting left)) (ltb 1 left) (quietly _ (Waiting (left - 1)) sweeps.Still remarks.Nothing (λ h. h) refl refl refl)
+    on_either (Usual (Waiting left)) (ltb 1 left) (quietly _ (Waiting (left - 1)) sweeps.Still remarks.Nothing (λ h. h) refl refl refl)
     (quietly _ Connecting sweeps.Still (note codes.connect) (λ h. h) refl refl refl)
 tick_usual interval next Connecting = in_place Connecting sweeps.Still remarks.Nothing refl refl refl
 tick_usual interval next (Opening age) =
-    cond_both (Usual (Opening age)) (ltb age 19) (quietly _ (Opening (age + 1)) sweeps.Still remarks.Nothing (λ h. h) refl refl refl)
-    (departs (Waiting 300) partings.Alert refl (λ h. absurd (true_false h refl)))
+    on_either (Usual (Opening age)) (ltb age 19) (quietly _ (Opening (age + 1)) sweeps.Still remarks.Nothing (λ h. h) refl refl refl)
+    (departs (Waiting 300) partings.Alert refl (λ h. cc))
 tick_usual interval next (Confirming number age) =
-    cond_both (Usual (Confirming number age)) (ltb age 19)
+    on_either (Usual (Confirming number age)) (ltb age 19)
     (quietly _ (Confirming number (age + 1)) sweeps.Still remarks.Nothing (λ h. h) refl refl refl)
     (departs (Waiting 300) partings.GoingOut refl (λ h. omega arith))
-tick_usual interval next (Up (awaited.Ok number) age) =
-    cond_both (Usual (Up (awaited.Ok number) age)) (ltb age 19)
-    (quietly _ (Up (awaited.Ok number) (age + 1)) sweeps.Older remarks.Nothing (λ h. h) refl refl refl)
+tick_usual interval next (Up (Some number) age) =
+    on_either (Usual (Up (Some number) age)) (ltb age 19)
+    (quietly _ (Up (Some number) (age + 1)) sweeps.Older remarks.Nothing (λ h. h) refl refl refl)
     (departs (Waiting 300) partings.GoingOut refl (λ h. omega arith))
-tick_usual interval next (Up awaited.Nothing age) =
-    cond_both (Usual (Up awaited.Nothing age)) (ltb (age + 1) interval)
-    (quietly _ (Up awaited.Nothing (age + 1)) sweeps.Older remarks.Nothing (λ h. h) refl refl refl)
-    (stays (Up (awaited.Ok next) 0) sweeps.Older (note codes.send_session_ok) (λ h. h) refl refl (λ h. refl))
+tick_usual interval next (Up None age) =
+    on_either (Usual (Up None age)) (ltb (age + 1) interval)
+    (quietly _ (Up None (age + 1)) sweeps.Older remarks.Nothing (λ h. h) refl refl refl)
+    (stays (Up (Some next) 0) sweeps.Older (note codes.send_session_ok) (λ h. h) refl refl (λ h. refl))
 tick_usual interval next Stopped = in_place Stopped sweeps.Still remarks.Nothing refl refl refl
 
 stop_usual : (state : State) → Usual state (stop state)
@@ -123,20 +121,20 @@ ok_usual s n (Waiting left) = unmatched_usual (Waiting left)
 ok_usual s n Connecting = unmatched_usual Connecting
 ok_usual s n (Opening age) = unmatched_usual (Opening age)
 ok_usual s n (Confirming number age) =
-    cond_both (Usual (Confirming number age)) (eqb n number)
-    (quietly _ (Up awaited.Nothing age) sweeps.Still (note codes.up) (λ h. refl) refl refl refl)
+    on_either (Usual (Confirming number age)) (eqb n number)
+    (quietly _ (Up None age) sweeps.Still (note codes.up) (λ h. refl) refl refl refl)
     (unmatched_usual (Confirming number age))
 ok_usual s n (Up waiting age) =
-    cond_both (Usual (Up waiting age)) (among n (awaited_numbers waiting))
-    (quietly _ (Up awaited.Nothing age) sweeps.Still remarks.Nothing (λ h. h) refl refl refl)
-    (cond_both (Usual (Up waiting age)) (among n (push_numbers s.pushes))
+    on_either (Usual (Up waiting age)) (among n (awaited_numbers waiting))
+    (quietly _ (Up None age) sweeps.Still remarks.Nothing (λ h. h) refl refl refl)
+    (on_either (Usual (Up waiting age)) (among n (push_numbers s.pushes))
     (in_place (Up waiting age) (sweeps.Acknowledged n) remarks.Nothing refl refl refl)
     (unmatched_usual (Up waiting age)))
 ok_usual s n Stopped = unmatched_usual Stopped
 
-acknowledged_usual : (s : Session) (named : Number) → Usual s.state (acknowledged s named)
-acknowledged_usual s numbers.Nothing = unmatched_usual s.state
-acknowledged_usual s (numbers.Names n) = ok_usual s n s.state
+acknowledged_usual : (s : Session) (named : Option ℕ) → Usual s.state (acknowledged s named)
+acknowledged_usual s None = unmatched_usual s.state
+acknowledged_usual s (Some n) = ok_usual s n s.state
 
 advises_not_lost : (advice : Advice) (n : ℕ) → is_lost (advises advice n) ≡ false
 advises_not_lost advices.UnreadableMessage n = refl
@@ -147,19 +145,19 @@ advisory_usual s advice n (Waiting left) = unmatched_usual (Waiting left)
 advisory_usual s advice n Connecting = unmatched_usual Connecting
 advisory_usual s advice n (Opening age) = unmatched_usual (Opening age)
 advisory_usual s advice n (Confirming number age) =
-    cond_both (Usual (Confirming number age)) (eqb n number) (departs (Waiting 300) partings.Disconnect refl (λ h. omega arith))
+    on_either (Usual (Confirming number age)) (eqb n number) (departs (Waiting 300) partings.Disconnect refl (λ h. omega arith))
     (unmatched_usual (Confirming number age))
 advisory_usual s advice n (Up waiting age) =
-    cond_both (Usual (Up waiting age)) (among n (awaited_numbers waiting))
-    (quietly _ (Up awaited.Nothing age) sweeps.Still (note codes.advisory_arrived) (λ h. h) refl refl refl)
-    (cond_both (Usual (Up waiting age)) (among n (push_numbers s.pushes))
+    on_either (Usual (Up waiting age)) (among n (awaited_numbers waiting))
+    (quietly _ (Up None age) sweeps.Still (note codes.advisory_arrived) (λ h. h) refl refl refl)
+    (on_either (Usual (Up waiting age)) (among n (push_numbers s.pushes))
     (in_place (Up waiting age) (advises advice n) remarks.Nothing (advises_not_lost advice n) refl refl)
     (unmatched_usual (Up waiting age)))
 advisory_usual s advice n Stopped = unmatched_usual Stopped
 
-about_usual : (s : Session) (advice : Advice) (named : Number) → Usual s.state (advised_about s advice named)
-about_usual s advice numbers.Nothing = unmatched_usual s.state
-about_usual s advice (numbers.Names n) = advisory_usual s advice n s.state
+about_usual : (s : Session) (advice : Advice) (named : Option ℕ) → Usual s.state (advised_about s advice named)
+about_usual s advice None = unmatched_usual s.state
+about_usual s advice (Some n) = advisory_usual s advice n s.state
 
 -- the answer is taken only in Opening
 abbrev pub is_answer : Action → Bool
@@ -183,16 +181,16 @@ pub answer_where : (state : State) (kind : Kind) → is_answer (action_of state 
 answer_where (Waiting left) kind h = (refl, refl)
 answer_where Connecting kind h = (refl, refl)
 answer_where (Opening age) kind h = (refl, refl)
-answer_where (Confirming number age) kind h = absurd (true_false h (no_answer kind).0)
-answer_where (Up waiting age) kind h = absurd (true_false h (no_answer kind).1)
+answer_where (Confirming number age) kind h = absurd (both_ways _ (no_answer kind).0 h)
+answer_where (Up waiting age) kind h = absurd (both_ways _ (no_answer kind).1 h)
 answer_where Stopped kind h = (refl, refl)
 
 answered_usual : (state : State) (next : ℕ) (status : Status) → (is_up state ≡ false) × (session_ok_numbers state ≡ [])
     → Usual state (answered next status)
 answered_usual state next statuses.Ok h =
-    stays (Confirming next 0) sweeps.Still (note codes.send_session_ok) (λ u. absurd (true_false u h.0)) refl refl (λ e. h.1)
+    stays (Confirming next 0) sweeps.Still (note codes.send_session_ok) (λ u. absurd (both_ways _ h.0 u)) refl refl (λ e. h.1)
 answered_usual state next statuses.RedundantSession h =
-    stays (Confirming next 0) sweeps.Still (note codes.send_session_ok) (λ u. absurd (true_false u h.0)) refl refl (λ e. h.1)
+    stays (Confirming next 0) sweeps.Still (note codes.send_session_ok) (λ u. absurd (both_ways _ h.0 u)) refl refl (λ e. h.1)
 answered_usual state next statuses.Other h = departs (Waiting 300) partings.Disconnect refl (λ u. omega arith)
 
 acted_usual : (s : Session) (m : Message) (action : Action)
@@ -201,19 +199,19 @@ acted_usual s m actions.OutOfPlace h = in_place s.state sweeps.Still (note codes
 acted_usual s m actions.Answer h = answered_usual s.state (next_number s) (counted_in s.site.conduct (status_by m.status)) (h refl)
 acted_usual s m actions.Acknowledge h = acknowledged_usual s (named_by m.in_response_to)
 acted_usual s m actions.Advise h =
-    cond_both (Usual s.state) m.in_relation_to.there (about_usual s (advice_by m.advisory_type) m.in_relation_to.number)
+    on_either (Usual s.state) m.in_relation_to.there (about_usual s (advice_by m.advisory_type) m.in_relation_to.meaning)
     (in_place s.state sweeps.Still (note codes.advisory_arrived) refl refl refl)
 acted_usual s m actions.Request h = in_place s.state sweeps.Still (note codes.request_arrived) refl refl refl
 
 -- ---- any call
 
 connected_usual : (state : State) → is_connecting state ≡ true → Usual state connected
-connected_usual (Waiting left) h = absurd (true_false h refl)
+connected_usual (Waiting left) h = cc
 connected_usual Connecting h = quietly Connecting (Opening 0) sweeps.Still (note codes.send_session_open_request) (λ u. u) refl refl refl
-connected_usual (Opening age) h = absurd (true_false h refl)
-connected_usual (Confirming number age) h = absurd (true_false h refl)
-connected_usual (Up waiting age) h = absurd (true_false h refl)
-connected_usual Stopped h = absurd (true_false h refl)
+connected_usual (Opening age) h = cc
+connected_usual (Confirming number age) h = cc
+connected_usual (Up waiting age) h = cc
+connected_usual Stopped h = cc
 
 pub move_usual : (s : Session) (c : Call) → refusal_of s c ≡ 0 → Usual s.state (move_of s c)
 move_usual s calls.Tick a = tick_usual s.site.interval (next_number s) s.state

@@ -5,5 +5,5 @@ use Rattle.laws.proofs.OneAnswer.{one_answer}
 use Rattle.conduct.specs.Session.{state_number}
 use Rattle.conduct.specs.declared.State.{State}
 
-pub state_number_once : (self : State) {r r' : ℕ} → r ≡ state_number self → r' ≡ state_number self → r ≡ r'
-state_number_once self = one_answer
+pub from_state_once : (state : State) {r r' : ℕ} → r ≡ state_number state → r' ≡ state_number state → r ≡ r'
+from_state_once state = one_answer

@@ -1,25 +1,25 @@
 -- An accepted message gives one event; an Ok for the open SessionOk in Up gives none. Assumes nothing.
+use Rattle.std.specs.Prelude.{Option, None, Some}
 use mathlib.Core.Path.{◌≡◌, refl, sym, ap, ◌∙◌}
-use mathlib.Core.Bool.{Bool, true, false, cond, ◌&&◌, ◌||◌}
+use mathlib.Core.Bool.{Bool, true, false, cond, ◌||◌}
 use mathlib.Core.List.{List, [], ◌∷◌, ◌++◌, append-nil}
 use mathlib.Core.Logic.{◌⊎◌, inl, inr, ⊎_elim}
 use Prim.Native.Nat.{ℕ}
 use native.Mathlib.Omega.{arith}
 use lib.Dec.{eqb}
 use lib.ListN.{length, length-append}
-use borrow.Author.Tests.{eqb-true, eq-eqb}
-use Rattle.laws.proofs.Tests.{neither, true_false}
+use borrow.Author.Tests.{eqb-true}
+use Rattle.std.proofs.lemmas.Bool.{cond_both, or_parts}
+use Rattle.std.proofs.lemmas.Bool.Decides.{nat_tests}
 use Rattle.message.specs.declared.Kind.{Kind}
 use Rattle.message.specs.declared.Kind.TheVariants as kinds
-use Rattle.message.specs.declared.Number.{Number}
-use Rattle.message.specs.declared.Number.TheVariants as numbers
-use Rattle.message.specs.declared.NumberValue.{NumberValue}
+use Rattle.message.specs.declared.Value.{Value}
 use Rattle.message.specs.declared.Status.{Status}
 use Rattle.message.specs.declared.Status.TheVariants as statuses
 use Rattle.message.specs.declared.Advice.{Advice}
 use Rattle.message.specs.declared.Advice.TheVariants as advices
 use Rattle.message.specs.declared.Message.{Message}
-use Rattle.message.proofs.Laws.{cond_both, cond_cases}
+use Rattle.message.proofs.Laws.{on_either}
 use Rattle.conduct.specs.Lists.{flat, among, distinct}
 use Rattle.conduct.specs.Codes as codes
 use Rattle.conduct.specs.Pushes.{terms_of, event_of, may_go_again, again_or, told_by, tells}
@@ -29,11 +29,9 @@ use Rattle.conduct.specs.Rules as rules
 use Rattle.conduct.specs.Rules.{goes, touches, leaves, named_by, status_by, counted_in, advice_by, next_number, acted}
 use Rattle.conduct.specs.Rules.{answered, ok_naming, advises, advisory_naming, advised_about}
 use Rattle.conduct.specs.Step.{events_by, Answered, answer, step}
-use Rattle.conduct.specs.History.{names, names_number, call_bearing}
+use Rattle.conduct.specs.History.{names, call_bearing}
 use Rattle.conduct.specs.History.Bearing.{acknowledged}
 use Rattle.conduct.specs.Bounds.{OneEvent}
-use Rattle.conduct.specs.declared.Awaited.{Awaited}
-use Rattle.conduct.specs.declared.Awaited.TheVariants as awaited
 use Rattle.conduct.specs.declared.State.{State}
 use Rattle.conduct.specs.declared.State.TheVariants.{Waiting, Connecting, Opening, Confirming, Up, Stopped}
 use Rattle.conduct.specs.declared.Event.{Event}
@@ -50,7 +48,7 @@ use Rattle.conduct.specs.declared.Parting.TheVariants as partings
 use Rattle.conduct.specs.declared.Remark.TheVariants as remarks
 use Rattle.conduct.specs.declared.Move.{Move}
 use Rattle.conduct.specs.declared.Terms.{Terms}
-use Rattle.conduct.proofs.Lists.{flat_nothing, eqb_sym, distinct_head, distinct_tail, distinct_back}
+use Rattle.conduct.proofs.Lists.{flat_nothing, distinct_head, distinct_tail, distinct_back}
 use Rattle.conduct.proofs.Good.{Good, good}
 use Rattle.conduct.proofs.Refused.{refused_by}
 use Rattle.conduct.proofs.Moves.{is_answer, answer_where}
@@ -61,12 +59,12 @@ module _ (n : ℕ) (f : Push → List Event) (h : (p : Push) → length (f p) �
   says_none : (ps : List Push) → among n (push_numbers ps) ≡ false → length (flat f ps) ≡ 0
   says_none [] a = refl
   says_none (p ∷ ps) a =
-      let e = neither (eqb n p.number) _ a in
+      let e = or_parts (eqb n p.number) _ a in
       let here : length (f p) ≡ 0 = h p ∙ rw e.0 in
       omega (arith, length-append (f p) (flat f ps), says_none ps e.1)
 
   says_one : (ps : List Push) → distinct (push_numbers ps) ≡ true → among n (push_numbers ps) ≡ true → length (flat f ps) ≡ 1
-  says_one [] d a = absurd (true_false a refl)
+  says_one [] d a = cc
   says_one (p ∷ ps) d a = go (eqb n p.number) refl a (says_one ps (distinct_tail p.number (push_numbers ps) d))
     where
       go : (b : Bool) → eqb n p.number ≡ b → (b || among n (push_numbers ps)) ≡ true
@@ -85,18 +83,14 @@ TellsOne terms n sweep = (p : Push) → length (tells terms sweep p) ≡ cond (e
 
 named_one : (n : ℕ) (p : Push) (f : Fate) → length (told_by f) ≡ 1
     → length (told_by (cond (eqb p.number n) f (Keep p))) ≡ cond (eqb n p.number) 1 0
-named_one n p f h = rw (eqb_sym n p.number) (go (eqb p.number n))
-  where
-    go : (b : Bool) → length (told_by (cond b f (Keep p))) ≡ cond b 1 0
-    go true = h
-    go false = refl
+named_one n p f h = grind (arith, nat_tests)
 
 acknowledged_tells : (terms : Terms) (n : ℕ) → TellsOne terms n (sweeps.Acknowledged n)
 acknowledged_tells terms n p = named_one n p (Close (event_of 9 p)) refl
 
 advice_tells : (terms : Terms) (advice : Advice) (n : ℕ) → TellsOne terms n (advises advice n)
 advice_tells terms advices.UnreadableMessage n p =
-    named_one n p (again_or terms 10 p) (cond_both (λ (f : Fate). length (told_by f) ≡ 1) (may_go_again terms p) refl refl)
+    named_one n p (again_or terms 10 p) (on_either (λ (f : Fate). length (told_by f) ≡ 1) (may_go_again terms p) refl refl)
 advice_tells terms advices.Other n p = named_one n p (Close (event_of 10 p)) refl
 
 -- ---- moves that say one thing
@@ -123,13 +117,9 @@ module _ (s : Session) where
 
 -- ---- an Ok, which says nothing where it names the open SessionOk in Up
 
-awaited_is : (n : ℕ) (w : Awaited) → among n (awaited_numbers w) ≡ true → awaited_numbers w ≡ n ∷ []
-awaited_is n awaited.Nothing h = absurd (true_false h refl)
-awaited_is n (awaited.Ok m) h = ap (λ (k : ℕ). k ∷ []) (go (eqb n m) refl h)
-  where
-    go : (b : Bool) → eqb n m ≡ b → (b || false) ≡ true → m ≡ n
-    go true e h = sym (eqb-true n m e)
-    go false e h = absurd (true_false h refl)
+awaited_is : (n : ℕ) (w : Option ℕ) → among n (awaited_numbers w) ≡ true → awaited_numbers w ≡ n ∷ []
+awaited_is n None h = cc
+awaited_is n (Some m) h = grind (arith, nat_tests)
 
 abbrev Hushed : Session → ℕ → State → Move → Type 0
 Hushed s n state m = (is_up state ≡ true) × (session_ok_numbers state ≡ n ∷ []) × (events_by s m ≡ [])
@@ -143,11 +133,11 @@ module _ (s : Session) (differ : distinct (push_numbers s.pushes) ≡ true) wher
   ok_one n Connecting = inl (unmatched_one Connecting)
   ok_one n (Opening age) = inl (unmatched_one (Opening age))
   ok_one n (Confirming number age) =
-      inl (cond_both (One s) (eqb n number) (goes_one s (Up awaited.Nothing age) codes.up 0) (unmatched_one (Confirming number age)))
+      inl (on_either (One s) (eqb n number) (goes_one s (Up None age) codes.up 0) (unmatched_one (Confirming number age)))
   ok_one n (Up waiting age) =
-      cond_cases (λ (m : Move). One s m ⊎ Hushed s n (Up waiting age) m) (among n (awaited_numbers waiting))
+      cond_both (among n (awaited_numbers waiting)) _ _ (λ (m : Move). One s m ⊎ Hushed s n (Up waiting age) m)
       (λ e. inr (refl, awaited_is n waiting e, rw (flat_nothing (tells (terms_of s.site) sweeps.Still) (λ p. refl) s.pushes)))
-      (λ e. inl (cond_cases (One s) (among n (push_numbers s.pushes))
+      (λ e. inl (cond_both (among n (push_numbers s.pushes)) _ _ (One s)
       (touches_one s differ n (Up waiting age) (sweeps.Acknowledged n) (acknowledged_tells (terms_of s.site) n))
       (λ f. unmatched_one (Up waiting age))))
   ok_one n Stopped = inl (unmatched_one Stopped)
@@ -160,26 +150,26 @@ module _ (s : Session) (differ : distinct (push_numbers s.pushes) ≡ true) wher
     advisory_one advice n Connecting e = unmatched_one Connecting
     advisory_one advice n (Opening age) e = unmatched_one (Opening age)
     advisory_one advice n (Confirming number age) e =
-        cond_both (One s) (eqb n number) (leaves_one s (Waiting 300) (quiet (ap is_up e))) (unmatched_one (Confirming number age))
+        on_either (One s) (eqb n number) (leaves_one s (Waiting 300) (quiet (ap is_up e))) (unmatched_one (Confirming number age))
     advisory_one advice n (Up waiting age) e =
-        cond_both (One s) (among n (awaited_numbers waiting)) (goes_one s (Up awaited.Nothing age) codes.advisory_arrived 0)
-        (cond_cases (One s) (among n (push_numbers s.pushes))
+        on_either (One s) (among n (awaited_numbers waiting)) (goes_one s (Up None age) codes.advisory_arrived 0)
+        (cond_both (among n (push_numbers s.pushes)) _ _ (One s)
         (touches_one s differ n (Up waiting age) (advises advice n) (advice_tells (terms_of s.site) advice n))
         (λ f. unmatched_one (Up waiting age)))
     advisory_one advice n Stopped e = unmatched_one Stopped
 
-    about_one : (advice : Advice) (named : Number) → One s (advised_about s advice named)
-    about_one advice numbers.Nothing = unmatched_one s.state
-    about_one advice (numbers.Names n) = advisory_one advice n s.state refl
+    about_one : (advice : Advice) (named : Option ℕ) → One s (advised_about s advice named)
+    about_one advice None = unmatched_one s.state
+    about_one advice (Some n) = advisory_one advice n s.state refl
 
 -- ---- any message
 
 -- an Ok is what is acknowledged by in Up
 up_acknowledged : (state : State) (kind : Kind) → is_up state ≡ true → action_of state kind ≡ actions.Acknowledge → kind ≡ kinds.Ok
-up_acknowledged (Waiting left) kind u e = absurd (true_false u refl)
-up_acknowledged Connecting kind u e = absurd (true_false u refl)
-up_acknowledged (Opening age) kind u e = absurd (true_false u refl)
-up_acknowledged (Confirming number age) kind u e = absurd (true_false u refl)
+up_acknowledged (Waiting left) kind u e = cc
+up_acknowledged Connecting kind u e = cc
+up_acknowledged (Opening age) kind u e = cc
+up_acknowledged (Confirming number age) kind u e = cc
 up_acknowledged (Up waiting age) kinds.SessionOpenRequest u e = cc
 up_acknowledged (Up waiting age) kinds.SessionOpenResponse u e = cc
 up_acknowledged (Up waiting age) kinds.SessionOk u e = cc
@@ -187,15 +177,10 @@ up_acknowledged (Up waiting age) kinds.Ok u e = refl
 up_acknowledged (Up waiting age) kinds.Advisory u e = cc
 up_acknowledged (Up waiting age) kinds.Request u e = cc
 up_acknowledged (Up waiting age) kinds.Response u e = cc
-up_acknowledged Stopped kind u e = absurd (true_false u refl)
+up_acknowledged Stopped kind u e = cc
 
-named_names : (value : NumberValue) (n : ℕ) → named_by value ≡ numbers.Names n → names n value ≡ true
-named_names value n = go value.there value.number
-  where
-    go : (b : Bool) (x : Number) → cond b x numbers.Nothing ≡ numbers.Names n → (b && names_number n x) ≡ true
-    go true numbers.Nothing e = cc
-    go true (numbers.Names m) e = eq-eqb m n (cc)
-    go false x e = cc
+named_names : (value : Value (Option ℕ)) (n : ℕ) → named_by value ≡ Some n → names n value ≡ true
+named_names value n = grind (arith, nat_tests)
 
 abbrev Unheard : Session → Message → Move → Type 0
 Unheard s m move = (n : ℕ) × (call_bearing n (calls.Heard m) ≡ acknowledged ∷ []) × Hushed s n s.state move
@@ -204,10 +189,10 @@ module _ (s : Session) (m : Message) (g : Good s) where
   differ_in : distinct (push_numbers s.pushes) ≡ true
   differ_in = distinct_back (session_ok_numbers s.state) (push_numbers s.pushes) g.numbers_are
 
-  acknowledged_one : action_of s.state m.kind ≡ actions.Acknowledge → (named : Number) → named_by m.in_response_to ≡ named
+  acknowledged_one : action_of s.state m.kind ≡ actions.Acknowledge → (named : Option ℕ) → named_by m.in_response_to ≡ named
       → One s (rules.acknowledged s named) ⊎ Unheard s m (rules.acknowledged s named)
-  acknowledged_one a numbers.Nothing e = inl (unmatched_one s differ_in s.state)
-  acknowledged_one a (numbers.Names n) e =
+  acknowledged_one a None e = inl (unmatched_one s differ_in s.state)
+  acknowledged_one a (Some n) e =
       ⊎_elim (λ one. inl one)
       (λ hushed.
       let is_ok_lem = up_acknowledged s.state m.kind hushed.0 a in
@@ -220,8 +205,8 @@ module _ (s : Session) (m : Message) (g : Good s) where
       inl (answered_one s (g.quiet (answer_where s.state m.kind (ap is_answer a)).0) (next_number s) (counted_in s.site.conduct (status_by m.status)))
   acted_one actions.Acknowledge a = acknowledged_one a (named_by m.in_response_to) refl
   acted_one actions.Advise a =
-      inl (cond_both (One s) m.in_relation_to.there
-      (about_one s differ_in g.quiet (advice_by m.advisory_type) m.in_relation_to.number)
+      inl (on_either (One s) m.in_relation_to.there
+      (about_one s differ_in g.quiet (advice_by m.advisory_type) m.in_relation_to.meaning)
       (goes_one s s.state codes.advisory_arrived 0))
   acted_one actions.Request a = inl (goes_one s s.state codes.request_arrived 0)
 
@@ -229,11 +214,11 @@ accepted_step : (s : Session) (c : Call) → (step s c).refusal ≡ 0 → step s
 accepted_step s c e = ap (λ (k : ℕ). answer k s c) (sym (refused_by s c) ∙ e)
 
 pub one_event : OneEvent
-one_event s calls.Tick ok is accepted = absurd (true_false is refl)
-one_event s calls.Connected ok is accepted = absurd (true_false is refl)
-one_event s calls.Lost ok is accepted = absurd (true_false is refl)
-one_event s calls.Stop ok is accepted = absurd (true_false is refl)
-one_event s (calls.Push what handle) ok is accepted = absurd (true_false is refl)
+one_event s calls.Tick ok is accepted = cc
+one_event s calls.Connected ok is accepted = cc
+one_event s calls.Lost ok is accepted = cc
+one_event s calls.Stop ok is accepted = cc
+one_event s (calls.Push what handle) ok is accepted = cc
 one_event s (calls.Heard m) ok is accepted =
     let now = accepted_step s (calls.Heard m) accepted in
     ⊎_elim (λ one. inl (ap (λ (a : Answered). length a.events) now ∙ one))

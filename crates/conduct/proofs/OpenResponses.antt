@@ -4,7 +4,6 @@ use mathlib.Core.Bool.{Bool, true, false, cond, ◌&&◌, ◌||◌}
 use mathlib.Core.List.{List, [], ◌∷◌, ◌++◌}
 use Prim.Native.Nat.{ℕ}
 use lib.Dec.{eqb}
-use Rattle.laws.proofs.Tests.{true_false}
 use Rattle.message.specs.declared.Kind.{Kind}
 use Rattle.message.specs.declared.Kind.TheVariants as kinds
 use Rattle.message.specs.declared.Message.{Message}
@@ -71,41 +70,41 @@ module _ (site : Site) (last age : ℕ) where
 
   opens_by : (k : Conduct) (there : Bool) (status : Status) → (there && (is_ok status || (is_old k && is_redundant_session status))) ≡ true
       → given (counted_in k (cond there status statuses.Other)) ≡ confirming
-  opens_by k false status h = absurd (true_false h refl)
+  opens_by k false status h = cc
   opens_by New true statuses.Ok h = opened.0
-  opens_by New true statuses.RedundantSession h = absurd (true_false h refl)
-  opens_by New true statuses.Other h = absurd (true_false h refl)
+  opens_by New true statuses.RedundantSession h = cc
+  opens_by New true statuses.Other h = cc
   opens_by Old true statuses.Ok h = opened.0
   opens_by Old true statuses.RedundantSession h = opened.1
-  opens_by Old true statuses.Other h = absurd (true_false h refl)
+  opens_by Old true statuses.Other h = cc
 
   ends_by : (k : Conduct) (there : Bool) (status : Status) → (there && (is_ok status || (is_old k && is_redundant_session status))) ≡ false
       → given (counted_in k (cond there status statuses.Other)) ≡ waiting
   ends_by New false status h = refl
-  ends_by New true statuses.Ok h = absurd (true_false refl h)
+  ends_by New true statuses.Ok h = cc
   ends_by New true statuses.RedundantSession h = refl
   ends_by New true statuses.Other h = refl
   ends_by Old false status h = refl
-  ends_by Old true statuses.Ok h = absurd (true_false refl h)
-  ends_by Old true statuses.RedundantSession h = absurd (true_false refl h)
+  ends_by Old true statuses.Ok h = cc
+  ends_by Old true statuses.RedundantSession h = cc
   ends_by Old true statuses.Other h = refl
 
   answers_opening : (m : Message) → is_open_response m.kind ≡ true → AnswersOpening opening m
   answers_opening m h =
       record {
-        opens = λ o. by_kind m.kind h ∙ opens_by site.conduct m.status.there m.status.status o;
-        ends = λ o. by_kind m.kind h ∙ ends_by site.conduct m.status.there m.status.status o;
+        opens = λ o. by_kind m.kind h ∙ opens_by site.conduct m.status.there m.status.meaning o;
+        ends = λ o. by_kind m.kind h ∙ ends_by site.conduct m.status.there m.status.meaning o;
       }
     where
       by_kind : (kind : Kind) → is_open_response kind ≡ true
           → moved (acted opening m (action_of (Opening age) kind)) ≡ given (counted_in site.conduct (status_by m.status))
-      by_kind kinds.SessionOpenRequest h = absurd (true_false h refl)
+      by_kind kinds.SessionOpenRequest h = cc
       by_kind kinds.SessionOpenResponse h = refl
-      by_kind kinds.SessionOk h = absurd (true_false h refl)
-      by_kind kinds.Ok h = absurd (true_false h refl)
-      by_kind kinds.Advisory h = absurd (true_false h refl)
-      by_kind kinds.Request h = absurd (true_false h refl)
-      by_kind kinds.Response h = absurd (true_false h refl)
+      by_kind kinds.SessionOk h = cc
+      by_kind kinds.Ok h = cc
+      by_kind kinds.Advisory h = cc
+      by_kind kinds.Request h = cc
+      by_kind kinds.Response h = cc
 
 pub opening_answered : OpeningAnswered
 opening_answered s m age ok e h =
@@ -118,18 +117,18 @@ opening_answered s m age ok e h =
 
 elsewhere : (kind : Kind) (state : State) → is_open_response kind ≡ true → is_linked state ≡ true → eqb (state_number state) 3 ≡ false
     → action_of state kind ≡ actions.OutOfPlace
-elsewhere kinds.SessionOpenRequest state h l o = absurd (true_false h refl)
-elsewhere kinds.SessionOpenResponse (Waiting left) h l o = absurd (true_false l refl)
-elsewhere kinds.SessionOpenResponse Connecting h l o = absurd (true_false l refl)
-elsewhere kinds.SessionOpenResponse (Opening age) h l o = absurd (true_false refl o)
+elsewhere kinds.SessionOpenRequest state h l o = cc
+elsewhere kinds.SessionOpenResponse (Waiting left) h l o = cc
+elsewhere kinds.SessionOpenResponse Connecting h l o = cc
+elsewhere kinds.SessionOpenResponse (Opening age) h l o = cc
 elsewhere kinds.SessionOpenResponse (Confirming number age) h l o = refl
 elsewhere kinds.SessionOpenResponse (Up waits age) h l o = refl
-elsewhere kinds.SessionOpenResponse Stopped h l o = absurd (true_false l refl)
-elsewhere kinds.SessionOk state h l o = absurd (true_false h refl)
-elsewhere kinds.Ok state h l o = absurd (true_false h refl)
-elsewhere kinds.Advisory state h l o = absurd (true_false h refl)
-elsewhere kinds.Request state h l o = absurd (true_false h refl)
-elsewhere kinds.Response state h l o = absurd (true_false h refl)
+elsewhere kinds.SessionOpenResponse Stopped h l o = cc
+elsewhere kinds.SessionOk state h l o = cc
+elsewhere kinds.Ok state h l o = cc
+elsewhere kinds.Advisory state h l o = cc
+elsewhere kinds.Request state h l o = cc
+elsewhere kinds.Response state h l o = cc
 
 pub still_kept : (terms : Terms) (ps : List Push) → flat (keeps terms sweeps.Still) ps ++ [] ≡ ps
 still_kept terms [] = refl

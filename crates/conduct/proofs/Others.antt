@@ -4,7 +4,7 @@ use mathlib.Core.Bool.{false}
 use mathlib.Core.List.{List, [], ◌∷◌}
 use Prim.Native.Nat.{ℕ}
 use lib.Dec.{eqb}
-use Rattle.laws.proofs.Tests.{neither}
+use Rattle.std.proofs.lemmas.Bool.{or_parts}
 use Rattle.conduct.specs.Lists.{flat, among}
 use Rattle.conduct.specs.Pushes.{fate_of, keeps, tells}
 use Rattle.conduct.specs.Session.{push_numbers}
@@ -38,6 +38,6 @@ pub all_aside : (terms : Terms) (n : ℕ) (b : Bearing) (ps : List Push) → amo
     → (left_by terms n b ps ≡ ps) × (flat (tells terms (sweep_by n b)) ps ≡ [])
 all_aside terms n b [] h = (refl, refl)
 all_aside terms n b (p ∷ ps) h =
-    let e = neither (eqb n p.number) (among n (push_numbers ps)) h in
+    let e = or_parts (eqb n p.number) (among n (push_numbers ps)) h in
     let rest = all_aside terms n b ps e.1 in
     rw (aside terms n b p (eqb_sym p.number n ∙ e.0)) (ap (◌∷◌ p) rest.0, rest.1)

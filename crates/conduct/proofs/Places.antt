@@ -1,8 +1,6 @@
 -- A part of a history is a history: up to a place, at it and after it. Assumes nothing.
 use mathlib.Core.Path.{◌≡◌, refl, sym, ap₂, subst⁻¹}
 use mathlib.Core.List.{List, [], ◌∷◌, ◌++◌}
-use Prim.Native.Nat.{ℕ}
-use native.Mathlib.Omega.{arith}
 use Rattle.conduct.specs.Session.{Session}
 use Rattle.conduct.specs.Step.{step}
 use Rattle.conduct.specs.History.{Entry, entry, history, session_after}
@@ -10,7 +8,7 @@ use Rattle.conduct.specs.declared.Call.{Call}
 
 pub front : (cs : List Call) (s : Session) (a b : List Entry) → history s cs ≡ a ++ b → (ds : List Call) × (a ≡ history s ds)
 front cs s [] b e = ([], refl)
-front [] s (y ∷ a) b e = absurd (let z : ◌≡◌ {A = ℕ} 0 1 = cc in omega arith)
+front [] s (y ∷ a) b e = cc
 front (c ∷ cs) s (y ∷ a) b e =
     let here : entry s c ≡ y = cc in
     let later : history (step s c).next cs ≡ a ++ b = cc in
@@ -20,8 +18,8 @@ front (c ∷ cs) s (y ∷ a) b e =
 pub place : (cs : List Call) (s : Session) (a b : List Entry) (x : Entry) → history s cs ≡ a ++ x ∷ b
     → (ds : List Call) × (d : Call) × (es : List Call)
     × (a ≡ history s ds) × (x ≡ entry (session_after s ds) d) × (b ≡ history (step (session_after s ds) d).next es)
-place [] s [] b x e = absurd (let z : ◌≡◌ {A = ℕ} 0 1 = cc in omega arith)
-place [] s (y ∷ a) b x e = absurd (let z : ◌≡◌ {A = ℕ} 0 1 = cc in omega arith)
+place [] s [] b x e = cc
+place [] s (y ∷ a) b x e = cc
 place (c ∷ cs) s [] b x e =
     let here : entry s c ≡ x = cc in
     let later : history (step s c).next cs ≡ b = cc in

@@ -7,13 +7,14 @@ use mathlib.Core.Logic.{⊎_elim}
 use Prim.Native.Nat.{ℕ, zero, suc, ◌+◌}
 use native.Mathlib.Omega.{arith}
 use lib.ListN.{length-append}
-use Rattle.laws.proofs.Tests.{neither, true_false}
-use Rattle.message.proofs.Laws.{cond_cases}
+use Rattle.std.proofs.lemmas.Bool.{and_from, or_parts}
+use Rattle.std.proofs.lemmas.List.{map-append}
+use Rattle.std.proofs.lemmas.Bool.Decides.{nat_tests}
 use Rattle.conduct.specs.Lists.{flat, among, distinct}
 use Rattle.conduct.specs.Numbers.{next_free}
 use Rattle.conduct.specs.Pushes.{terms_of, opened, keeps}
 use borrow.Author.Tests.{le-leb}
-use Rattle.conduct.specs.Session.{allowed_resends, Session, allowed_interval, Made, is_up, session_ok_numbers, push_numbers, held, refusal_of}
+use Rattle.conduct.specs.Session.{Session, is_up, session_ok_numbers, push_numbers, held, refusal_of}
 use Rattle.conduct.specs.Rules.{next_number, move_of}
 use Rattle.conduct.specs.Step.{last_after_parting, moved_by, answer, step}
 use Rattle.conduct.specs.Sound.{sound_push, sound}
@@ -26,7 +27,7 @@ use Rattle.conduct.specs.declared.Sweep.TheVariants as sweeps
 use Rattle.conduct.specs.declared.Call.{Call}
 use Rattle.conduct.specs.declared.Move.{Move}
 use Rattle.conduct.specs.declared.Site.{Site}
-use Rattle.conduct.proofs.Lists.{both, map_append, flat_nothing, all_append, among_append, distinct_cons, distinct_back}
+use Rattle.conduct.proofs.Lists.{flat_nothing, all_append, among_append, distinct_cons, distinct_back}
 use Rattle.conduct.proofs.Lists.{distinct_more}
 use Rattle.conduct.proofs.Good.{Good, good, sound_of, some_number_free}
 use Rattle.conduct.proofs.Kept.{kept_few, kept_sound, kept_unheld, kept_differ}
@@ -36,7 +37,7 @@ use Rattle.conduct.proofs.Fair.Taking.{holds, frees, sends, opens_one}
 -- ---- a fair move leads to a session that passes
 
 opened_sound : (site : Site) (what : Pushed) (number handle : ℕ) → sound_push (terms_of site) (opened what number handle) ≡ true
-opened_sound site Response number handle = both (le-leb 1 (site.resends + 1) (omega arith)) refl
+opened_sound site Response number handle = and_from _ _ (le-leb 1 (site.resends + 1) (omega arith)) refl
 opened_sound site Advisory number handle = refl
 
 module _ (s : Session) (m : Move) (g : Good s) (f : Fair s m) where
@@ -77,24 +78,24 @@ module _ (s : Session) (m : Move) (g : Good s) (f : Fair s m) where
   good_by (frees n o) = settled o (rw n pushes_differ)
   good_by (sends n o) =
       let unheld = rw (among_append (next_number s) (session_ok_numbers s.state) (push_numbers left_open)) at (free_still s.last) in
-      let other = (neither (among (next_number s) (session_ok_numbers s.state)) (among (next_number s) (push_numbers left_open)) unheld).1 in
+      let other = (or_parts (among (next_number s) (session_ok_numbers s.state)) (among (next_number s) (push_numbers left_open)) unheld).1 in
       settled o (rw n (distinct_cons (next_number s) (push_numbers left_open) other pushes_differ))
   good_by (opens_one what handle stays up o few) =
       let new : Push = opened what (sent_number s m) handle in
       let one_more : left_open ++ new_pushes s m ≡ left_open ++ new ∷ [] = ap (λ (qs : List Push). left_open ++ qs) o in
       let before : List ℕ = session_ok_numbers s.state ++ push_numbers left_open in
       let numbers : session_ok_numbers m.to ++ push_numbers (left_open ++ new ∷ []) ≡ before ++ sent_number s m ∷ [] =
-      rw (stays, map_append (λ (p : Push). p.number) left_open (new ∷ []), append_assoc)
+      rw (stays, map-append (λ (p : Push). p.number) left_open (new ∷ []), append_assoc)
       in
       record {
         interval_is = g.interval_is;
         resends_is = g.resends_is;
         state_is = f.to_is;
         room = rw one_more (simp length-append (omega (arith, kept_few (terms_of s.site) m.sweep s.pushes)));
-        quiet = λ u. absurd (true_false up u);
+        quiet = λ u. cc;
         pushes_are =
             rw (one_more, all_append (sound_push (terms_of s.site)) left_open (new ∷ []))
-            (both (kept_sound (terms_of s.site) m.sweep s.pushes g.pushes_are) (both (opened_sound s.site what (sent_number s m) handle) refl));
+            (and_from _ _ (kept_sound (terms_of s.site) m.sweep s.pushes g.pushes_are) (and_from _ _ (opened_sound s.site what (sent_number s m) handle) refl));
         numbers_are =
             rw (one_more, numbers)
             (distinct_more before (sent_number s m) still_differ (free_still (last_after_parting s m)));
@@ -117,13 +118,7 @@ reached_is_sound s [] h = h
 reached_is_sound s (c ∷ cs) h = reached_is_sound (step s c).next cs (sound_step s c h)
 
 pub made_is_sound : MadeIsSound
-made_is_sound site =
-    cond_cases Passes (allowed_interval site.interval)
-    (λ e. cond_cases Passes (allowed_resends site.resends) (λ f. both e (both f refl)) (λ f. refl))
-    (λ e. refl)
-  where
-    Passes : Made → Type 0
-    Passes m = sound m.session ≡ true
+made_is_sound site = grind (arith, nat_tests)
 
 -- ---- what that means of the numbers and of the room
 

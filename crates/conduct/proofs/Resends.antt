@@ -1,48 +1,34 @@
 -- Making a session with a number of resends, and what another number of them does not change. Assumes nothing.
 use mathlib.Core.Path.{◌≡◌, refl, sym, ap, subst⁻¹, ◌∙◌}
-use mathlib.Core.Bool.{Bool, true, false, not}
+use mathlib.Core.Bool.{Bool, not}
 use mathlib.Core.List.{List, ◌++◌}
-use mathlib.Core.Logic.{◌⊎◌, ⊎_elim}
-use Prim.Native.Nat.{ℕ, zero, suc, ◌<◌}
-use lib.Dec.{leb}
-use borrow.Author.Tests.{le-leb, lt-leb}
-use Rattle.laws.proofs.Tests.{and_last}
+use Prim.Native.Nat.{ℕ, zero, suc}
+use Rattle.std.proofs.lemmas.Bool.Decides.{nat_tests}
+use native.Mathlib.Omega.{arith}
 use Rattle.message.specs.declared.Message.{Message}
 use Rattle.conduct.specs.Lists.{flat, only, those}
 use Rattle.conduct.specs.Pushes.{terms_of, tells}
-use Rattle.conduct.specs.Session.{Session, allowed_interval, held, refusal_of}
+use Rattle.conduct.specs.Session.{Session, held, refusal_of}
 use Rattle.conduct.specs.Rules.{named_by, acted, move_of}
 use Rattle.conduct.specs.Step.{parting_notes, last_after_parting, remark_notes, events_by, moved_by, answer}
 use Rattle.conduct.specs.Numbers.{all_numbered}
 use Rattle.conduct.specs.Table.{action_of}
 use Rattle.conduct.specs.History.{of_push}
-use Rattle.conduct.specs.Resends.{is_interval, EveryMakingAnswered, resending_up_to, AlikeButPushes, OnlyOfPushes}
+use Rattle.conduct.specs.Resends.{EveryMakingAnswered, resending_up_to, AlikeButPushes, OnlyOfPushes}
 use Rattle.conduct.specs.declared.Action.{Action}
 use Rattle.conduct.specs.declared.Action.TheVariants as actions
-use Rattle.conduct.specs.declared.Site.{Site}
 use Rattle.conduct.specs.declared.Event.{Event}
 use Rattle.conduct.specs.declared.Call.{Call}
 use Rattle.conduct.specs.declared.Call.TheVariants as calls
 use Rattle.conduct.specs.declared.Move.{Move}
-use Rattle.conduct.proofs.Lists.{both, flat_append, none_those}
+use Rattle.conduct.proofs.Lists.{flat_append, none_those}
 use Rattle.conduct.proofs.Said.{told_fails}
 use Rattle.conduct.proofs.Elsewhere.{ok_alike, advised_alike}
 
 -- ---- making a session
 
-allowed : (site : Site) → is_interval site.interval → allowed_interval site.interval ≡ true
-allowed site between = both (le-leb 21 site.interval between.0) (le-leb site.interval 6000 between.1)
-
-outside : (interval : ℕ) → (interval < 21) ⊎ (6000 < interval) → allowed_interval interval ≡ false
-outside interval = ⊎_elim (λ low. rw (lt-leb 21 interval low)) (λ high. and_last (leb 21 interval) (lt-leb interval 6000 high))
-
 pub every_making_answered : EveryMakingAnswered
-every_making_answered site =
-    record {
-      interval_first = λ out. rw (outside site.interval out);
-      then_resends = λ between many. rw (allowed site between, lt-leb site.resends 3 many);
-      else_none = λ between few. rw (allowed site between, le-leb site.resends 3 few);
-    }
+every_making_answered site = grind (arith, nat_tests)
 
 -- ---- nothing else
 

@@ -3,13 +3,13 @@
 use mathlib.Core.Path.{◌≡◌, refl, ◌∙◌}
 use mathlib.Core.Bool.{Bool, true, false, not}
 use mathlib.Core.List.{List, [], ◌∷◌}
-use mathlib.Core.Logic.{⊎_elim}
 use Prim.Native.Nat.{ℕ, ◌≤◌}
 use native.Mathlib.Omega.{arith}
 use lib.Dec.{eqb}
 use lib.ListN.{length}
-use borrow.Author.Tests.{eqb-true, not-true}
-use Rattle.laws.proofs.Tests.{either, or_last}
+use borrow.Author.Tests.{not-true}
+use Rattle.std.proofs.lemmas.Bool.{and_from, and_parts, or_right}
+use Rattle.std.proofs.lemmas.Bool.Decides.{nat_tests}
 use Rattle.conduct.specs.Lists.{flat, some, all, among}
 use Rattle.conduct.specs.Codes.{sending}
 use Rattle.conduct.specs.Numbers.{numbered, last_after, all_numbered}
@@ -27,7 +27,7 @@ use Rattle.conduct.specs.declared.Parting.TheVariants as partings
 use Rattle.conduct.specs.declared.Remark.{Remark}
 use Rattle.conduct.specs.declared.Remark.TheVariants as remarks
 use Rattle.conduct.specs.declared.Terms.{Terms}
-use Rattle.conduct.proofs.Lists.{both, both_of, all_flat, all_always}
+use Rattle.conduct.proofs.Lists.{all_flat, all_always}
 use Rattle.conduct.proofs.Among.{row_among, all_among}
 use Rattle.conduct.proofs.Sweeps.{Of, fate_of_lem}
 use Rattle.conduct.proofs.Moves.{plain_codes, usual}
@@ -36,7 +36,7 @@ use Rattle.conduct.proofs.Moves.{plain_codes, usual}
 all_fail : {A : Type 0} (test : A → Bool) (xs : List A) → all (λ (x : A). not (test x)) xs ≡ true → some test xs ≡ false
 all_fail test [] h = refl
 all_fail test (x ∷ xs) h =
-    let b = both_of (not (test x)) _ h in
+    let b = and_parts (not (test x)) _ h in
     rw (not-true (test x) b.0) (all_fail test xs b.1)
 
 -- ---- open pushes
@@ -45,7 +45,7 @@ abbrev pub told_codes : List ℕ
 told_codes = 5 ∷ 9 ∷ 10 ∷ 11 ∷ 12 ∷ []
 
 closing_code : (code : ℕ) → closing code ≡ true → among code told_codes ≡ true
-closing_code code h = or_last (eqb code 5) (row_among 3 9 code ∙ h)
+closing_code code h = or_right (eqb code 5) _ (row_among 3 9 code ∙ h)
 
 module _ (test : Event → Bool)
     (h : (number detail : ℕ) → all (λ (code : ℕ). test (record { code = code; number = number; detail = detail })) told_codes ≡ true) where
@@ -56,8 +56,8 @@ module _ (test : Event → Bool)
 
   told_fate : (p : Push) (f : Fate) → Of p f → all test (told_by f) ≡ true
   told_fate p (Keep q) o = refl
-  told_fate p (Again q e) o = both (told_one e (rw o.2)) refl
-  told_fate p (Close e) o = both (told_one e (closing_code e.code o.1)) refl
+  told_fate p (Again q e) o = and_from _ _ (told_one e (rw o.2)) refl
+  told_fate p (Close e) o = and_from _ _ (told_one e (closing_code e.code o.1)) refl
 
   pub told_pass : (terms : Terms) (sweep : Sweep) (ps : List Push) → all test (flat (tells terms sweep) ps) ≡ true
   told_pass terms sweep ps =
@@ -81,14 +81,11 @@ module _ (test : Event → Bool) (held : List ℕ)
 
   pub parting_pass : (parting : Parting) (last : ℕ) → all test (all_numbered held last (parting_notes parting)) ≡ true
   parting_pass partings.Nothing last = refl
-  parting_pass partings.Disconnect last = both (parting_one last 7 refl) refl
+  parting_pass partings.Disconnect last = and_from _ _ (parting_one last 7 refl) refl
   parting_pass partings.GoingOut last =
       let then = last_after held last (noted 19 0) in
-      both (parting_one last 19 refl) (both (parting_one then 7 refl) refl)
-  parting_pass partings.Alert last =
-      let first = last_after held last (noted 18 0) in
-      let second = last_after held first (noted 19 0) in
-      both (parting_one last 18 refl) (both (parting_one first 19 refl) (both (parting_one second 7 refl) refl))
+      and_from _ _ (parting_one last 19 refl) (and_from _ _ (parting_one then 7 refl) refl)
+  parting_pass partings.Alert last = grind (arith, nat_tests)
 
 pub parting_fails : (test : Event → Bool) (held : List ℕ)
     → ((last : ℕ) → all (λ (code : ℕ). not (test (numbered held last (noted code 0)))) parting_codes ≡ true)
@@ -107,18 +104,13 @@ module _ (test : Event → Bool) (held : List ℕ) (last : ℕ)
     (plain : all (λ (code : ℕ). test (numbered held last (noted code 0))) plain_codes ≡ true)
     (unreadable : (refusal : ℕ) → test (numbered held last (noted 16 refusal)) ≡ true) where
   pub note_pass : (code detail : ℕ) → usual (remarks.Note code detail) ≡ true → test (numbered held last (noted code detail)) ≡ true
-  note_pass code detail u =
-      ⊎_elim (λ e. rw (eqb-true code 16 e) (unreadable detail))
-      (λ e.
-      let b = both_of (eqb detail 0) _ e in
-      rw (eqb-true detail 0 b.0) (all_among (λ (code : ℕ). test (numbered held last (noted code 0))) plain_codes plain code b.1))
-      (either (eqb code 16) _ u)
+  note_pass code detail u = grind (arith, nat_tests)
 
   pub remark_pass : ((what : Pushed) (handle : ℕ) → test (numbered held last (noted (sending what) handle)) ≡ true)
       → (remark : Remark) → usual remark ≡ true → all test (all_numbered held last (remark_notes remark)) ≡ true
   remark_pass sent remarks.Nothing u = refl
-  remark_pass sent (remarks.Note code detail) u = both (note_pass code detail u) refl
-  remark_pass sent (remarks.Send what handle) u = both (sent what handle) refl
+  remark_pass sent (remarks.Note code detail) u = and_from _ _ (note_pass code detail u) refl
+  remark_pass sent (remarks.Send what handle) u = and_from _ _ (sent what handle) refl
 
 pub remark_fails : (test : Event → Bool) (held : List ℕ) (last : ℕ)
     → all (λ (code : ℕ). not (test (numbered held last (noted code 0)))) plain_codes ≡ true

@@ -5,7 +5,7 @@ use mathlib.Core.List.{List, [], ◌∷◌}
 use Prim.Native.Nat.{ℕ}
 use lib.Dec.{eqb}
 use borrow.Author.Tests.{eqb-true}
-use Rattle.laws.proofs.Tests.{or_last}
+use Rattle.std.proofs.lemmas.Bool.{or_right}
 use Rattle.conduct.specs.Lists.{only, those, some}
 use Rattle.conduct.specs.History.{closing, about}
 use Rattle.conduct.specs.declared.Event.{Event}
@@ -43,7 +43,7 @@ pub closing_told : (code : ℕ) → closing code ≡ true → telling code ≡ t
 closing_told code h = rw h
 
 pub resending_told : (code : ℕ) → eqb code 5 ≡ true → telling code ≡ true
-resending_told code h = or_last (closing code) h
+resending_told code h = or_right (closing code) _ h
 
 pub acknowledging_told : (code : ℕ) → eqb code 9 ≡ true → telling code ≡ true
 acknowledging_told code h = rw (eqb-true code 9 h)

@@ -1,4 +1,5 @@
 -- When a SessionOk is sent, and that it is open then, with no tick counted. Assumes nothing.
+use Rattle.std.specs.Prelude.{None, Some}
 use mathlib.Core.Path.{◌≡◌, refl, sym, ap, ◌∙◌}
 use mathlib.Core.Bool.{Bool, true, false, or-false}
 use mathlib.Core.List.{List, [], ◌∷◌, ◌++◌}
@@ -8,8 +9,9 @@ use native.Mathlib.Omega.{arith}
 use lib.Dec.{ltb, eqb}
 use lib.ListN.{length, length-append}
 use borrow.Author.Tests.{eq-eqb}
-use Rattle.laws.proofs.Tests.{neither, or_last, true_false}
-use Rattle.message.proofs.Laws.{cond_both}
+use Rattle.std.proofs.lemmas.Bool.{both_ways, or_parts, or_right}
+use Rattle.std.proofs.lemmas.Bool.Decides.{nat_tests}
+use Rattle.message.proofs.Laws.{on_either}
 use Rattle.conduct.specs.Lists.{flat, some}
 use Rattle.conduct.specs.Numbers.{all_numbered}
 use Rattle.conduct.specs.Pushes.{terms_of, tells}
@@ -17,7 +19,6 @@ use Rattle.conduct.specs.Session.{Session, state_number, held}
 use Rattle.conduct.specs.Rules.{goes, ages, note, tick, next_number}
 use Rattle.conduct.specs.Step.{parting_notes, remark_notes, last_after_parting, events_by, Answered}
 use Rattle.conduct.specs.Timers.{says_session_ok, SentIsOpen, SentInTicks}
-use Rattle.conduct.specs.declared.Awaited.TheVariants as awaited
 use Rattle.conduct.specs.declared.State.{State}
 use Rattle.conduct.specs.declared.State.TheVariants.{Waiting, Connecting, Opening, Confirming, Up, Stopped}
 use Rattle.conduct.specs.declared.Event.{Event}
@@ -61,7 +62,7 @@ says_by_lem s m =
     (remark_says (held s) (last_after_parting s m) m.remark)
 
 unsaid : (s : Session) (m : Move) → is_session_ok m.remark ≡ false → says_session_ok (events_by s m) ≡ true → ⊥
-unsaid s m q h = true_false h (says_by_lem s m ∙ q)
+unsaid s m q h = both_ways _ (says_by_lem s m ∙ q) h
 
 -- ---- the moves that send one
 
@@ -70,7 +71,7 @@ abbrev answering : ℕ → Move
 answering next = goes (Confirming next 0) (note 3)
 
 abbrev pub beating : ℕ → Move
-beating next = ages (Up (awaited.Ok next) 0) (note 3)
+beating next = ages (Up (Some next) 0) (note 3)
 
 data Sends (next : ℕ) (m : Move) : Type 0 where
   none : is_session_ok m.remark ≡ false → Sends next m
@@ -78,20 +79,16 @@ data Sends (next : ℕ) (m : Move) : Type 0 where
   heartbeat : m ≡ beating next → Sends next m
 
 -- the last tick of an interval
-pub heartbeat_due : (interval next age : ℕ) → ltb (age + 1) interval ≡ false → tick interval next (Up awaited.Nothing age) ≡ beating next
+pub heartbeat_due : (interval next age : ℕ) → ltb (age + 1) interval ≡ false → tick interval next (Up None age) ≡ beating next
 heartbeat_due interval next age h = rw h
 
 tick_sends : (interval next : ℕ) (state : State) → Sends next (tick interval next state)
-tick_sends interval next (Waiting left) = cond_both (Sends next) (ltb 1 left) (none refl) (none refl)
+tick_sends interval next (Waiting left) = on_either (Sends next) (ltb 1 left) (none refl) (none refl)
 tick_sends interval next Connecting = none refl
-tick_sends interval next (Opening age) = cond_both (Sends next) (ltb age 19) (none refl) (none refl)
-tick_sends interval next (Confirming number age) = cond_both (Sends next) (ltb age 19) (none refl) (none refl)
-tick_sends interval next (Up (awaited.Ok number) age) = cond_both (Sends next) (ltb age 19) (none refl) (none refl)
-tick_sends interval next (Up awaited.Nothing age) = go (ltb (age + 1) interval) refl
-  where
-    go : (b : Bool) → ltb (age + 1) interval ≡ b → Sends next (tick interval next (Up awaited.Nothing age))
-    go true e = none (rw e)
-    go false e = heartbeat (heartbeat_due interval next age e)
+tick_sends interval next (Opening age) = on_either (Sends next) (ltb age 19) (none refl) (none refl)
+tick_sends interval next (Confirming number age) = on_either (Sends next) (ltb age 19) (none refl) (none refl)
+tick_sends interval next (Up (Some number) age) = on_either (Sends next) (ltb age 19) (none refl) (none refl)
+tick_sends interval next (Up None age) = grind (arith, nat_tests)
 tick_sends interval next Stopped = none refl
 
 -- but for a tick only the answer does
@@ -108,7 +105,7 @@ onward_sends m (stops t q) = inl q
 pub sent_in_ticks : SentInTicks
 sent_in_ticks s c =
     by_turns (λ (k : ℕ) (r : Answered). says_session_ok r.events ≡ true → (c ≡ calls.Tick) ⊎ (state_number s.state ≡ 3)) s c
-    (λ k h. absurd (true_false h refl))
+    (λ k h. cc)
     (λ m o h. ⊎_elim (λ q. absurd (unsaid s m q h)) (λ w. inr w.0) (onward_sends m o))
     (λ e h. inl e)
 
@@ -120,14 +117,14 @@ last_one [] x e [] b n q t = cc
 last_one [] x e (y ∷ a) b n q t = absurd (omega (arith, ap length q, length-append a (e ∷ b)))
 last_one (y ∷ xs) x e [] b n q t =
     let same : y ≡ e = cc in
-    absurd (true_false (eq-eqb y.code 3 (ap (λ (z : Event). z.code) same ∙ t)) (neither (is_heartbeat y) _ n).0)
-last_one (y ∷ xs) x e (z ∷ a) b n q t = last_one xs x e a b (neither (is_heartbeat y) _ n).1 (cc) t
+    absurd (both_ways _ (or_parts (is_heartbeat y) _ n).0 (eq-eqb y.code 3 (ap (λ (z : Event). z.code) same ∙ t)))
+last_one (y ∷ xs) x e (z ∷ a) b n q t = last_one xs x e a b (or_parts (is_heartbeat y) _ n).1 (cc) t
 
 found : (a b : List Event) (e : Event) → e.code ≡ 3 → says_session_ok (a ++ e ∷ b) ≡ true
-found a b e t = some_append is_heartbeat a (e ∷ b) ∙ or_last (some is_heartbeat a) (rw (eq-eqb e.code 3 t))
+found a b e t = some_append is_heartbeat a (e ∷ b) ∙ or_right (some is_heartbeat a) _ (rw (eq-eqb e.code 3 t))
 
 abbrev Open : State → ℕ → Type 0
-Open state n = (state ≡ Confirming n 0) ⊎ (state ≡ Up (awaited.Ok n) 0)
+Open state n = (state ≡ Confirming n 0) ⊎ (state ≡ Up (Some n) 0)
 
 abbrev sent_ok : Session → Event
 sent_ok s = record { code = 3; number = next_number s; detail = 0 }
@@ -144,7 +141,7 @@ move_opens s m (none q) a b e h t = absurd (unsaid s m q (rw h (found a b e t)))
 move_opens s m (answer f) a b e h t =
     inl (ap (λ (x : Move). x.to) f ∙ ap (λ (n : ℕ). Confirming n 0) (its_number s sweeps.Still a b e (sym (ap (events_by s) f) ∙ h) t))
 move_opens s m (heartbeat f) a b e h t =
-    inr (ap (λ (x : Move). x.to) f ∙ ap (λ (n : ℕ). Up (awaited.Ok n) 0) (its_number s sweeps.Older a b e (sym (ap (events_by s) f) ∙ h) t))
+    inr (ap (λ (x : Move). x.to) f ∙ ap (λ (n : ℕ). Up (Some n) 0) (its_number s sweeps.Older a b e (sym (ap (events_by s) f) ∙ h) t))
 
 pub sent_is_open : SentIsOpen
 sent_is_open s c a b e =

@@ -3,7 +3,7 @@ use mathlib.Core.Path.{◌≡◌, refl, sym, ap, subst, ◌∙◌}
 use mathlib.Core.Bool.{true, not}
 use mathlib.Core.List.{List, [], ◌∷◌, ◌++◌, map, append-nil}
 use Prim.Native.Nat.{ℕ}
-use Rattle.laws.proofs.Tests.{or_last}
+use Rattle.std.proofs.lemmas.Bool.{or_right}
 use Rattle.conduct.specs.Lists.{flat, only, those}
 use Rattle.conduct.specs.Codes.{sending}
 use Rattle.conduct.specs.Numbers.{numbered, all_numbered}
@@ -48,7 +48,7 @@ sweep_speaks terms sweep (p ∷ ps) = go (fate_of terms sweep p) (fate_of_lem te
 
     go : (f : Fate) → Of p f → Speaks rest ps → Speaks (told_by f ++ rest) (p ∷ ps)
     go (Keep q) h t = left (as_opened p) _ _ t
-    go (Again q e) h t = spoken e h.1 (or_last (closing e.code) (rw h.2)) t
+    go (Again q e) h t = spoken e h.1 (or_right (closing e.code) _ (rw h.2)) t
     go (Close e) h t = spoken e h.0 (rw h.1) t
 
 -- no parting and no remark is of a push

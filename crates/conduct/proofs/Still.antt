@@ -2,7 +2,7 @@
 -- last sending. Assumes nothing.
 use mathlib.Core.Path.{◌≡◌, refl, sym, ap, ◌∙◌}
 use mathlib.Core.Bool.{true, cond}
-use mathlib.Core.List.{List, [], ◌∷◌, ◌++◌}
+use mathlib.Core.List.{List, [], ◌∷◌, ◌++◌, append-eq-nil_iff}
 use Prim.Native.Nat.{ℕ, ◌+◌, ◌<◌}
 use native.Mathlib.Omega.{arith}
 use lib.Dec.{eqb}
@@ -35,17 +35,13 @@ pub record Still (n : ℕ) (s : Session) (cs : List Call) (q : Push) : Type 0 wh
   pub young : push.age < 20
   pub aged : push.age ≡ ticks_on n q.age (history s cs)
 
-append_none : {A : Type 0} (xs ys : List A) → xs ++ ys ≡ [] → (xs ≡ []) × (ys ≡ [])
-append_none [] ys h = (refl, h)
-append_none (x ∷ xs) ys h = absurd (omega (arith, ap length h))
-
 pub still : (n : ℕ) (cs : List Call) (s : Session) (q : Push) → sound s ≡ true → mine n s.pushes ≡ q ∷ [] → q.age < 20
     → closings n (history s cs) ≡ [] → Still n s cs q
 still n [] s q ok alone y none = record { push = q; alone = alone; kind = refl; sendings = omega arith; young = y; aged = refl }
 still n (c ∷ cs) s q ok alone y none =
     let t = turn n q s ok alone c in
     let whole : those (closesIt n) (x.events ++ events_in (span n xs)) ≡ [] = rw t.ungiven at none in
-    let parts = append_none _ _ (sym (flat_append (only (closesIt n)) x.events (events_in (span n xs))) ∙ whole) in
+    let parts = append-eq-nil_iff.0 (sym (flat_append (only (closesIt n)) x.events (events_in (span n xs))) ∙ whole) in
     let more : length (resendings n (x ∷ xs)) ≡ length (those (sends_again n) x.events) + length (resendings n xs) =
     rw (t.ungiven, flat_append (only (sends_again n)) x.events (events_in (span n xs))) (length-append (those (sends_again n) x.events) (resendings n xs))
     in
@@ -92,4 +88,4 @@ still n (c ∷ cs) s q ok alone y none =
         onward (sent_again q) refl (omega (arith, resent_count fate told)) (rw (resent_as fate told)) more (ih (sent_again q) kept (omega arith))
     go f (closes code d a b) told kept shut more ih =
         let one = sym (those_said n closing closing_told x.events ∙ ap (those is_closing) told) ∙ shut in
-        absurd (let z : ◌≡◌ {A = ℕ} 0 1 = cc (rw d at one) in omega arith)
+        cc (rw d at one)

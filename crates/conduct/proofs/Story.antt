@@ -9,7 +9,7 @@ use native.Mathlib.Omega.{arith}
 use lib.Dec.{leb, eqb}
 use lib.ListN.{length, length-append}
 use borrow.Author.Tests.{eq-eqb, ne_eqb, eqb-true, leb-true}
-use Rattle.laws.proofs.Tests.{true_false}
+use Rattle.std.proofs.lemmas.Bool.{and_from, and_parts, both_ways}
 use Rattle.conduct.specs.Lists.{only, those, some, all}
 use Rattle.conduct.specs.Pushes.{event_of, older, sent_again, is_response, may_go_again, kept_by, told_by}
 use Rattle.conduct.specs.History.{closing, is_closing, Bearing}
@@ -19,7 +19,7 @@ use Rattle.conduct.specs.declared.Push.{Push}
 use Rattle.conduct.specs.declared.Fate.{Fate}
 use Rattle.conduct.specs.declared.Fate.TheVariants.{Keep, Again, Close}
 use Rattle.conduct.specs.declared.Terms.{Terms}
-use Rattle.conduct.proofs.Lists.{both, both_of, flat_append}
+use Rattle.conduct.proofs.Lists.{flat_append}
 
 -- ---- turns and lives
 
@@ -52,7 +52,7 @@ abbrev pub is_resending : Event → Bool
 is_resending e = eqb e.code 5
 
 closing_no_resending : (code : ℕ) → closing code ≡ true → eqb code 5 ≡ false
-closing_no_resending code c = ne_eqb code 5 (λ e. omega (arith, leb-true 9 code (both_of (leb 9 code) _ c).0))
+closing_no_resending code c = ne_eqb code 5 (λ e. omega (arith, leb-true 9 code (and_parts (leb 9 code) _ c).0))
 
 -- ---- how often something is said
 
@@ -86,8 +86,8 @@ chance terms q = cond (is_response q.what) (terms.resends + 1 - q.sent) 0
 
 again_less : (terms : Terms) (q : Push) → may_go_again terms q ≡ true → suc (chance terms (sent_again q)) ≡ chance terms q
 again_less terms q o =
-    let b = both_of (is_response q.what) _ o in
-    rw b.0 (omega (arith, leb-true q.sent terms.resends (both_of (leb q.sent terms.resends) _ b.1).0))
+    let b = and_parts (is_response q.what) _ o in
+    rw b.0 (omega (arith, leb-true q.sent terms.resends (and_parts (leb q.sent terms.resends) _ b.1).0))
 
 again_pays : (terms : Terms) (bs : List Bearing) (q : Push) (f : Fate) → Turned terms bs q f
     → length (those is_resending (told_by f)) + total (chance terms) (kept_by f) ≤ chance terms q
@@ -116,7 +116,7 @@ life_ends {terms} (turned bs q f es t rest u l) a b e h c = go f u (λ a h. life
         → (a : List Event) → told_by f ++ es ≡ a ++ e ∷ b → b ≡ []
     go f (stays x) ih silent a h = ih a h
     go f (ages x m) ih silent a h = ih a h
-    go f (again x o) ih silent [] h = absurd (true_false c (let same : event_of 5 q ≡ e = cc in ap is_closing (sym same)))
+    go f (again x o) ih silent [] h = absurd (both_ways _ (let same : event_of 5 q ≡ e = cc in ap is_closing (sym same)) c)
     go f (again x o) ih silent (y ∷ a) h = ih a (cc)
     go f (closes code x y z) ih silent [] h = let same : es ≡ b = cc in sym same ∙ silent refl
     go f (closes code x y z) ih silent (w ∷ a) h = absurd (none_holds_one a b e (sym (silent refl) ∙ cc))
@@ -188,13 +188,13 @@ life_handled h (gone t rest) a = refl
 life_handled {terms} h (turned bs q f es t rest u l) a = go f u (λ a. life_handled h l a)
   where
     own : has h q ≡ true
-    own = (both_of (has h q) true a).0
+    own = (and_parts (has h q) true a).0
 
     go : (f : Fate) → Turned terms bs q f → (all (has h) (kept_by f) ≡ true → all (carries h) es ≡ true) → all (carries h) (told_by f ++ es) ≡ true
     go f (stays e) ih = ih a
     go f (ages e l) ih = ih a
-    go f (again e o) ih = both own (ih a)
-    go f (closes code c x y) ih = both own (ih refl)
+    go f (again e o) ih = and_from _ _ own (ih a)
+    go f (closes code c x y) ih = and_from _ _ own (ih refl)
 
 -- ---- what is said in one turn
 
@@ -203,19 +203,19 @@ is_acknowledging e = eqb e.code 9
 
 pub acknowledged_by : {terms : Terms} {bs : List Bearing} {q : Push} {f : Fate} → Turned terms bs q f
     → (some is_acknowledging (told_by f) ≡ true → bs ≡ acknowledged ∷ []) × (bs ≡ acknowledged ∷ [] → some is_acknowledging (told_by f) ≡ true)
-acknowledged_by (stays e) = (λ h. absurd (true_false h refl), λ i. cc)
-acknowledged_by (ages e l) = (λ h. absurd (true_false h refl), λ i. cc)
-acknowledged_by (again (inl e) o) = (λ h. absurd (true_false h refl), λ i. cc e.0)
-acknowledged_by (again (inr e) o) = (λ h. absurd (true_false h refl), λ i. cc)
+acknowledged_by (stays e) = (λ h. cc, λ i. cc)
+acknowledged_by (ages e l) = (λ h. cc, λ i. cc)
+acknowledged_by (again (inl e) o) = (λ h. cc, λ i. cc e.0)
+acknowledged_by (again (inr e) o) = (λ h. cc, λ i. cc)
 acknowledged_by (closes code c a b) = (λ h. a (eqb-true code 9 (sym (or-false (eqb code 9)) ∙ h)), λ i. rw (b i))
 
 pub resent_by : {terms : Terms} {bs : List Bearing} {q : Push} {f : Fate} → Turned terms bs q f → some is_resending (told_by f) ≡ true
     → ((bs ≡ ticked ∷ []) × (terms.ticks ≤ q.age + 1)) ⊎ (bs ≡ unreadable_message ∷ [])
-resent_by (stays e) h = absurd (true_false h refl)
-resent_by (ages e l) h = absurd (true_false h refl)
+resent_by (stays e) h = cc
+resent_by (ages e l) h = cc
 resent_by (again (inl e) o) h = inl e
 resent_by (again (inr e) o) h = inr e
-resent_by (closes code c a b) h = absurd (true_false h (rw (closing_no_resending code c)))
+resent_by (closes code c a b) h = absurd (both_ways _ (rw (closing_no_resending code c)) h)
 
 -- ---- the life of one push
 

@@ -5,7 +5,7 @@ use mathlib.Core.Bool.{Bool, true, false, cond, ◌||◌}
 use mathlib.Core.List.{List, [], append-nil}
 use Prim.Native.Nat.{ℕ, ◌+◌}
 use lib.Dec.{ltb, eqb}
-use Rattle.message.proofs.Laws.{cond_both}
+use Rattle.message.proofs.Laws.{on_either}
 use Rattle.conduct.specs.Lists.{flat, those}
 use Rattle.conduct.specs.Codes.{closed_advised, closed_timed_out}
 use Rattle.conduct.specs.Pushes.{event_of, may_go_again, again_or, fate_of, kept_by, told_by, keeps, tells}
@@ -52,16 +52,16 @@ its : (p : Push) (code : ℕ) → Tells p (event_of code p)
 its p code = record { named = refl; handled = refl }
 
 again_or_of : (terms : Terms) (p : Push) (code : ℕ) → closing code ≡ true → Of p (again_or terms code p)
-again_or_of terms p code c = cond_both (Of p) (may_go_again terms p) (record { kind = refl; named = refl; handled = refl }, its p 5, refl) (its p code, c)
+again_or_of terms p code c = on_either (Of p) (may_go_again terms p) (record { kind = refl; named = refl; handled = refl }, its p 5, refl) (its p code, c)
 
 pub fate_of_lem : (terms : Terms) (sweep : Sweep) (p : Push) → Of p (fate_of terms sweep p)
 fate_of_lem terms Still p = the_same p
 fate_of_lem terms Older p =
-    cond_both (Of p) (ltb (p.age + 1) terms.ticks) (record { kind = refl; named = refl; handled = refl }) (again_or_of terms p closed_timed_out refl)
+    on_either (Of p) (ltb (p.age + 1) terms.ticks) (record { kind = refl; named = refl; handled = refl }) (again_or_of terms p closed_timed_out refl)
 fate_of_lem terms Lost p = (its p 12, refl)
-fate_of_lem terms (Acknowledged n) p = cond_both (Of p) (is n p) (its p 9, refl) (the_same p)
-fate_of_lem terms (UnreadableMessage n) p = cond_both (Of p) (is n p) (again_or_of terms p closed_advised refl) (the_same p)
-fate_of_lem terms (Advised n) p = cond_both (Of p) (is n p) (its p 10, refl) (the_same p)
+fate_of_lem terms (Acknowledged n) p = on_either (Of p) (is n p) (its p 9, refl) (the_same p)
+fate_of_lem terms (UnreadableMessage n) p = on_either (Of p) (is n p) (again_or_of terms p closed_advised refl) (the_same p)
+fate_of_lem terms (Advised n) p = on_either (Of p) (is n p) (its p 10, refl) (the_same p)
 
 -- ---- what is said of n, and left of n
 

@@ -5,6 +5,7 @@ use mathlib.Core.List.{List, [], ◌∷◌, ◌++◌, map}
 use Prim.Native.Nat.{ℕ, ◌<◌, ◌^◌}
 use native.Mathlib.Omega.{arith}
 use lib.ListN.{length}
+use Rattle.std.proofs.lemmas.List.{map-append}
 use Rattle.conduct.specs.Lists.{flat, only, those}
 use Rattle.conduct.specs.Numbers.{Note, takes_number, next_free, last_after_all, all_numbered}
 use Rattle.conduct.specs.Pushes.{terms_of, tells}
@@ -17,7 +18,7 @@ use Rattle.conduct.specs.declared.Push.{Push}
 use Rattle.conduct.specs.declared.Sweep.{Sweep}
 use Rattle.conduct.specs.declared.Move.{Move}
 use Rattle.conduct.specs.declared.Terms.{Terms}
-use Rattle.conduct.proofs.Lists.{flat_append, map_append, none_those}
+use Rattle.conduct.proofs.Lists.{flat_append, none_those}
 use Rattle.conduct.proofs.Free.{next_after}
 use Rattle.conduct.proofs.Good.{good, few_held}
 use Rattle.conduct.proofs.Moves.{by_moves}
@@ -29,7 +30,7 @@ taking e = takes e.code
 taken_append : (xs ys : List Event) → numbers_taken (xs ++ ys) ≡ numbers_taken xs ++ numbers_taken ys
 taken_append xs ys =
     ap (map (λ (e : Event). e.number)) (flat_append (only taking) xs ys)
-    ∙ map_append (λ (e : Event). e.number) (those taking xs) (those taking ys)
+    ∙ map-append (λ (e : Event). e.number) (those taking xs) (those taking ys)
 
 -- what is said of an open push takes none
 told_takes : (terms : Terms) (sweep : Sweep) (ps : List Push) → numbers_taken (flat (tells terms sweep) ps) ≡ []

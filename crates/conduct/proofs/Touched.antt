@@ -1,9 +1,10 @@
 -- A message that names a number, in Up: what it leaves and says. Assumes nothing.
+use Rattle.std.specs.Prelude.{Option, None}
 use mathlib.Core.Path.{◌≡◌, refl, sym, ap, ◌∙◌}
 use mathlib.Core.Bool.{Bool, true, false, cond}
 use mathlib.Core.List.{List, [], ◌∷◌, ◌++◌, append-nil}
 use Prim.Native.Nat.{ℕ}
-use Rattle.laws.proofs.Tests.{true_false, never}
+use Rattle.std.proofs.lemmas.Bool.{both_ways, false_from_ne_true}
 use Rattle.conduct.specs.Lists.{flat, among, distinct}
 use Rattle.conduct.specs.Pushes.{terms_of, tells}
 use Rattle.conduct.specs.Session.{Session, awaited_numbers, push_numbers}
@@ -13,8 +14,6 @@ use Rattle.conduct.specs.Step.{Answered, moved_by, events_by, step}
 use Rattle.conduct.specs.History.{Bearing}
 use Rattle.conduct.specs.History.Bearing.{ticked, acknowledged, unreadable_message, advised}
 use Rattle.conduct.specs.Swapped.{Names, unmatched_event, says_of_session_ok}
-use Rattle.conduct.specs.declared.Awaited.{Awaited}
-use Rattle.conduct.specs.declared.Awaited.TheVariants as awaited
 use Rattle.conduct.specs.declared.State.TheVariants.{Up}
 use Rattle.conduct.specs.declared.Site.{Site}
 use Rattle.conduct.specs.declared.Push.{Push}
@@ -31,20 +30,20 @@ use Rattle.conduct.proofs.Others.{sweep_by, left_by, all_aside}
 use Rattle.conduct.proofs.Named.{up_with, remark_by, move_by, heard_naming, named_move}
 
 -- the open SessionOk, if the message does not name it
-abbrev pub waits_beside : ℕ → Awaited → Awaited
-waits_beside n w = cond (among n (awaited_numbers w)) awaited.Nothing w
+abbrev pub waits_beside : ℕ → Option ℕ → Option ℕ
+waits_beside n w = cond (among n (awaited_numbers w)) None w
 
 -- what it says: of the open SessionOk, of a push, or that nothing open has the number
-abbrev pub says_by : Terms → Awaited → List Push → ℕ → Bearing → List Event
+abbrev pub says_by : Terms → Option ℕ → List Push → ℕ → Bearing → List Event
 says_by terms w ps n b =
     cond (among n (awaited_numbers w)) (says_of_session_ok b)
     (cond (among n (push_numbers ps)) (flat (tells terms (sweep_by n b)) ps) (unmatched_event ∷ []))
 
 -- an open SessionOk's number is no push's
-not_pushed : (n : ℕ) (w : Awaited) (ms : List ℕ) → distinct (awaited_numbers w ++ ms) ≡ true → among n (awaited_numbers w) ≡ true → among n ms ≡ false
-not_pushed n w ms d h = never (among n ms) (λ e. true_false h (not_awaited_too n w ms d e))
+not_pushed : (n : ℕ) (w : Option ℕ) (ms : List ℕ) → distinct (awaited_numbers w ++ ms) ≡ true → among n (awaited_numbers w) ≡ true → among n ms ≡ false
+not_pushed n w ms d h = false_from_ne_true (among n ms) (λ e. both_ways _ (not_awaited_too n w ms d e) h)
 
-module _ (site : Site) (last : ℕ) (w : Awaited) (age : ℕ) (ps : List Push) (n : ℕ) where
+module _ (site : Site) (last : ℕ) (w : Option ℕ) (age : ℕ) (ps : List Push) (n : ℕ) where
   abbrev s : Session
   s = up_with site last w age ps
 
@@ -54,18 +53,18 @@ module _ (site : Site) (last : ℕ) (w : Awaited) (age : ℕ) (ps : List Push) (
   abbrev made : Move → Answered
   made m = record { refusal = 0; next = moved_by s m; events = events_by s m }
 
-  abbrev left : Awaited → List Push → List Event → Answered
+  abbrev left : Option ℕ → List Push → List Event → Answered
   left v qs es = record { refusal = 0; next = up_with site last v age qs; events = es }
 
   untold : (es : List Event) → flat (tells terms sweeps.Still) ps ++ es ≡ es
   untold es = rw (flat_nothing (tells terms sweeps.Still) (λ p. refl) ps)
 
   -- the open SessionOk is answered, a push is touched, nothing is found
-  answers_it : (b : Bearing) → made (goes (Up awaited.Nothing age) (remark_by b)) ≡ left awaited.Nothing ps (says_of_session_ok b)
-  answers_it ticked = λ i. left awaited.Nothing (still_kept terms ps i) (untold [] i)
-  answers_it acknowledged = λ i. left awaited.Nothing (still_kept terms ps i) (untold [] i)
-  answers_it unreadable_message = λ i. left awaited.Nothing (still_kept terms ps i) (untold (says_of_session_ok unreadable_message) i)
-  answers_it advised = λ i. left awaited.Nothing (still_kept terms ps i) (untold (says_of_session_ok advised) i)
+  answers_it : (b : Bearing) → made (goes (Up None age) (remark_by b)) ≡ left None ps (says_of_session_ok b)
+  answers_it ticked = λ i. left None (still_kept terms ps i) (untold [] i)
+  answers_it acknowledged = λ i. left None (still_kept terms ps i) (untold [] i)
+  answers_it unreadable_message = λ i. left None (still_kept terms ps i) (untold (says_of_session_ok unreadable_message) i)
+  answers_it advised = λ i. left None (still_kept terms ps i) (untold (says_of_session_ok advised) i)
 
   touches_it : (b : Bearing) → made (touches (Up w age) (sweep_by n b)) ≡ left w (left_by terms n b ps) (flat (tells terms (sweep_by n b)) ps)
   touches_it b = λ i. left w (append-nil (left_by terms n b ps) i) (append-nil (flat (tells terms (sweep_by n b)) ps) i)
@@ -79,10 +78,10 @@ module _ (site : Site) (last : ℕ) (w : Awaited) (age : ℕ) (ps : List Push) (
     where
       go : (x : Bool) → among n (awaited_numbers w) ≡ x → (y : Bool) → among n (push_numbers ps) ≡ y
           → made (move_by n w age x y b)
-          ≡ left (cond x awaited.Nothing w) (left_by terms n b ps)
+          ≡ left (cond x None w) (left_by terms n b ps)
           (cond x (says_of_session_ok b) (cond y (flat (tells terms (sweep_by n b)) ps) (unmatched_event ∷ [])))
       go true e y f =
-          answers_it b ∙ (λ i. left awaited.Nothing (sym (all_aside terms n b ps (not_pushed n w (push_numbers ps) differ e)).0 i) (says_of_session_ok b))
+          answers_it b ∙ (λ i. left None (sym (all_aside terms n b ps (not_pushed n w (push_numbers ps) differ e)).0 i) (says_of_session_ok b))
       go false e true f = touches_it b
       go false e false f =
           finds_nothing ∙ (λ i. left w (sym (all_aside terms n b ps f).0 i) (unmatched_event ∷ []))

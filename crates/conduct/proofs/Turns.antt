@@ -1,35 +1,32 @@
 -- A call on a sound session in which one push with the number n is open: what becomes of that push is a turn of its life, by what bears on
 -- it, and n is not given. Assumes nothing.
 use mathlib.Core.Path.{◌≡◌, refl, sym, ◌∙◌}
-use mathlib.Core.Bool.{Bool, true, false, cond, ◌&&◌}
-use mathlib.Core.List.{List, [], ◌∷◌, ◌++◌, append-nil}
+use mathlib.Core.Bool.{Bool, true, false, cond}
+use mathlib.Core.List.{List, [], ◌∷◌, append-nil}
 use mathlib.Core.Logic.{◌⊎◌, inl, inr}
 use Prim.Native.Nat.{ℕ, zero, suc, ◌+◌, ◌≤◌}
 use native.Mathlib.Omega.{arith}
 use lib.Dec.{eqb, ltb, eqb-suc-zero}
 use lib.ListN.{length}
 use borrow.Author.Tests.{ltb-true, ltb-false}
-use Rattle.laws.proofs.Tests.{never, neither, true_false}
+use Rattle.std.proofs.lemmas.Bool.{both_ways, cond_both, false_from_ne_true, or_parts}
+use Rattle.std.proofs.lemmas.Bool.Decides.{nat_tests}
 use Rattle.message.specs.declared.Kind.{Kind}
 use Rattle.message.specs.declared.Kind.TheVariants as kinds
-use Rattle.message.specs.declared.Number.{Number}
-use Rattle.message.specs.declared.Number.TheVariants as numbers
 use Rattle.message.specs.declared.Message.{Message}
-use Rattle.message.proofs.Laws.{cond_cases, cond_both}
+use Rattle.message.proofs.Laws.{on_either}
 use Rattle.conduct.specs.Lists.{those, some, among}
 use Rattle.conduct.specs.Codes.{closed_advised, closed_timed_out, closed_lost}
 use Rattle.conduct.specs.Pushes.{terms_of, event_of, may_go_again, again_or, kept_by, told_by}
-use Rattle.conduct.specs.Session.{Session, is_up, awaited_numbers, push_numbers, session_ok_numbers, refusal_of}
+use Rattle.conduct.specs.Session.{Session, is_up, push_numbers, session_ok_numbers, refusal_of}
 use Rattle.conduct.specs.Sound.{sound}
 use Rattle.conduct.specs.Table.{action_of}
-use Rattle.conduct.specs.Rules as rules
-use Rattle.conduct.specs.Rules.{named_by, acted, move_of}
+use Rattle.conduct.specs.Rules.{acted, move_of}
 use Rattle.conduct.specs.Step.{events_by, moved_by, answer, step}
-use Rattle.conduct.specs.History.{Entry, entry, accepted, is_tick, ticks, names, says_unreadable, about, gives}
+use Rattle.conduct.specs.History.{Entry, entry, is_tick, ticks, names, says_unreadable, about, gives}
 use Rattle.conduct.specs.History.{Bearing, advice_bearing, message_bearing, call_bearing, bearing}
 use Rattle.conduct.specs.History.Bearing.{ticked, acknowledged, unreadable_message, advised}
 use Rattle.conduct.specs.declared.State.{State}
-use Rattle.conduct.specs.declared.State.TheVariants.{Waiting, Connecting, Opening, Confirming, Up, Stopped}
 use Rattle.conduct.specs.declared.Push.{Push}
 use Rattle.conduct.specs.declared.Event.{Event}
 use Rattle.conduct.specs.declared.Fate.{Fate}
@@ -66,11 +63,8 @@ few_message : (n : ℕ) (m : Message) (kind : Kind) → Few 0 (message_bearing n
 few_message n m kinds.SessionOpenRequest = (omega arith, refl)
 few_message n m kinds.SessionOpenResponse = (omega arith, refl)
 few_message n m kinds.SessionOk = (omega arith, refl)
-few_message n m kinds.Ok = cond_both (Few 0) (names n m.in_response_to) (omega arith, refl) (omega arith, refl)
-few_message n m kinds.Advisory =
-    cond_both (Few 0) (names n m.in_relation_to)
-    (advice_cases (λ (b : Bearing). Few 0 (b ∷ [])) m (omega arith, refl) (omega arith, refl))
-    (omega arith, refl)
+few_message n m kinds.Ok = on_either (Few 0) (names n m.in_response_to) (omega arith, refl) (omega arith, refl)
+few_message n m kinds.Advisory = grind (arith, nat_tests)
 few_message n m kinds.Request = (omega arith, refl)
 few_message n m kinds.Response = (omega arith, refl)
 
@@ -85,25 +79,18 @@ few_call n (calls.Unreadable refusal) = (omega arith, refl)
 
 -- so ticks are counted by what bears on the push
 pub ticks_borne : (n : ℕ) (x : Entry) (xs : List Entry) → ticks (x ∷ xs) ≡ tick_in (bearing n x) + ticks xs
-ticks_borne n x xs = go (accepted x) (is_tick x.call) (few_call n x.call).1
-  where
-    go : (a t : Bool) → tick_in (call_bearing n x.call) ≡ cond t 1 0
-        → length (cond (a && t) (x ∷ []) [] ++ those (λ (y : Entry). accepted y && is_tick y.call) xs)
-        ≡ tick_in (cond a (call_bearing n x.call) []) + ticks xs
-    go true true e = rw e (omega arith)
-    go true false e = rw e (omega arith)
-    go false t e = omega arith
+ticks_borne n x xs = grind (arith, nat_tests)
 
 -- ---- turns by what bears on the push
 
 again_or_lem : (terms : Terms) (bs : List Bearing) (code : ℕ) (q : Push) → ((bs ≡ ticked ∷ []) × (terms.ticks ≤ q.age + 1)) ⊎ (bs ≡ unreadable_message ∷ [])
     → Turned terms bs q (Close (event_of code q)) → Turned terms bs q (again_or terms code q)
-again_or_lem terms bs code q by else = cond_cases (Turned terms bs q) (may_go_again terms q) (λ e. again by e) (λ e. else)
+again_or_lem terms bs code q by else = cond_both (may_go_again terms q) _ _ (Turned terms bs q) (λ e. again by e) (λ e. else)
 
 turned_by : (terms : Terms) (bs : List Bearing) (q : Push) → length bs ≤ 1 → Turned terms bs q (fate_in terms bs q)
 turned_by terms [] q few = stays refl
 turned_by terms (ticked ∷ []) q few =
-    cond_cases (Turned terms (ticked ∷ []) q) (ltb (q.age + 1) terms.ticks) (λ e. ages refl (ltb-true (q.age + 1) terms.ticks e))
+    cond_both (ltb (q.age + 1) terms.ticks) _ _ (Turned terms (ticked ∷ []) q) (λ e. ages refl (ltb-true (q.age + 1) terms.ticks e))
     (λ e.
     again_or_lem terms (ticked ∷ []) closed_timed_out q (inl (refl, ltb-false (q.age + 1) terms.ticks e))
     (closes 11 refl (λ i. absurd (omega arith)) (λ i. cc)))
@@ -124,40 +111,15 @@ is_acknowledged advised = false
 abbrev Unacknowledged : List Bearing → Type 0
 Unacknowledged bs = some is_acknowledged bs ≡ false
 
-ok_stays : (s : Session) (number : Number) → is_up s.state ≡ true → is_up (rules.acknowledged s number).to ≡ true
-ok_stays s numbers.Nothing u = u
-ok_stays s (numbers.Names n) u = go s.state u
-  where
-    Stays : Move → Type 0
-    Stays m = is_up m.to ≡ true
-
-    go : (state : State) → is_up state ≡ true → is_up (rules.ok_naming s n state).to ≡ true
-    go (Waiting left) u = u
-    go Connecting u = u
-    go (Opening age) u = u
-    go (Confirming number age) u = absurd (true_false u refl)
-    go (Up waits age) u =
-        cond_both Stays (among n (awaited_numbers waits)) refl (cond_both Stays (among n (push_numbers s.pushes)) refl refl)
-    go Stopped u = u
-
 module _ (n : ℕ) (s : Session) (up : is_up s.state ≡ true) where
   message_leaves : (m : Message) (state : State) (kind : Kind) → is_up state ≡ true → is_up (acted s m (action_of state kind)).to ≡ false
       → Unacknowledged (message_bearing n m kind)
   message_leaves m state kinds.SessionOpenRequest u h = refl
   message_leaves m state kinds.SessionOpenResponse u h = refl
   message_leaves m state kinds.SessionOk u h = refl
-  message_leaves m state kinds.Ok u h = go state u h
-    where
-      go : (state : State) → is_up state ≡ true → is_up (acted s m (action_of state kinds.Ok)).to ≡ false
-          → Unacknowledged (message_bearing n m kinds.Ok)
-      go (Waiting left) u h = absurd (true_false u refl)
-      go Connecting u h = absurd (true_false u refl)
-      go (Opening age) u h = absurd (true_false u refl)
-      go (Confirming number age) u h = absurd (true_false u refl)
-      go (Up waits age) u h = absurd (true_false (ok_stays s (named_by m.in_response_to) up) h)
-      go Stopped u h = absurd (true_false u refl)
+  message_leaves m state kinds.Ok u h = grind (arith, nat_tests)
   message_leaves m state kinds.Advisory u h =
-      cond_both Unacknowledged (names n m.in_relation_to) (advice_cases (λ (b : Bearing). Unacknowledged (b ∷ [])) m refl refl) refl
+      on_either Unacknowledged (names n m.in_relation_to) (advice_cases (λ (b : Bearing). Unacknowledged (b ∷ [])) m refl refl) refl
   message_leaves m state kinds.Request u h = refl
   message_leaves m state kinds.Response u h = refl
 
@@ -186,7 +148,7 @@ pub record Turn (terms : Terms) (n : ℕ) (q : Push) (up : Bool) (bs : List Bear
 
 module _ (n : ℕ) (q : Push) (s : Session) (ok : sound s ≡ true) (alone : mine n s.pushes ≡ q ∷ []) where
   one_not_none : mine n s.pushes ≡ [] → ⊥
-  one_not_none e = let z : ◌≡◌ {A = ℕ} 0 1 = cc in omega arith
+  one_not_none e = cc
 
   is_up_lem : is_up s.state ≡ true
   is_up_lem = go (is_up s.state) refl
@@ -197,11 +159,11 @@ module _ (n : ℕ) (q : Push) (s : Session) (ok : sound s ≡ true) (alone : min
 
   not_given : (c : Call) → some (gives n) (events_by s (move_of s c)) ≡ false
   not_given c =
-      never (some (gives n) (events_by s (move_of s c)))
+      false_from_ne_true (some (gives n) (events_by s (move_of s c)))
       (λ g.
       let free = given_free n s (move_of s c) (omega (arith, few_held {s = s} (good ok))) g in
       let parts = among_append n (session_ok_numbers s.state) (push_numbers s.pushes) in
-      one_not_none (none_mine n s.pushes (neither (among n (session_ok_numbers s.state)) _ (sym parts ∙ free)).1))
+      one_not_none (none_mine n s.pushes (or_parts (among n (session_ok_numbers s.state)) _ (sym parts ∙ free)).1))
 
   abbrev Accepted : Call → Type 0
   Accepted c = Turn (terms_of s.site) n q (is_up (move_of s c).to) (call_bearing n c) (events_by s (move_of s c)) (mine n (moved_by s (move_of s c)).pushes)
@@ -221,7 +183,7 @@ module _ (n : ℕ) (q : Push) (s : Session) (ok : sound s ≡ true) (alone : min
 
   leaving_up : (c : Call) → refusal_of s c ≡ 0 → is_up (move_of s c).to ≡ false → (move_of s c).sweep ≡ sweeps.Lost → Accepted c
   leaving_up c z d e =
-      let other : call_bearing n c ≡ acknowledged ∷ [] → ⊥ = λ i. true_false (rw i) (call_leaves n s is_up_lem c d) in
+      let other : call_bearing n c ≡ acknowledged ∷ [] → ⊥ = λ i. both_ways _ (call_leaves n s is_up_lem c d) (rw i) in
       record {
         fate = Close (event_of closed_lost q);
         just = rw d;
@@ -235,7 +197,7 @@ module _ (n : ℕ) (q : Push) (s : Session) (ok : sound s ≡ true) (alone : min
   on_accepted c z = go (is_up (move_of s c).to) refl
     where
       departing : (m : Move) → Usual s.state m → is_up m.to ≡ false → m.sweep ≡ sweeps.Lost
-      departing m (remains to sweep remark up lost usual free) d = absurd (true_false (up is_up_lem) d)
+      departing m (remains to sweep remark up lost usual free) d = absurd (both_ways _ d (up is_up_lem))
       departing m (departs to parting down few) d = refl
 
       go : (b : Bool) → is_up (move_of s c).to ≡ b → Accepted c

@@ -1,4 +1,5 @@
 -- What a second message does to the push, or to the open SessionOk, that both name. Assumes nothing.
+use Rattle.std.specs.Prelude.{Option, None, Some}
 use mathlib.Core.Path.{◌≡◌, refl, sym, ap, ◌∙◌, subst⁻¹}
 use mathlib.Core.Bool.{Bool, true, false}
 use mathlib.Core.List.{List, [], ◌∷◌, ◌++◌, map}
@@ -6,7 +7,8 @@ use Prim.Native.Nat.{ℕ}
 use native.Mathlib.Omega.{arith}
 use lib.Dec.{leb}
 use borrow.Author.Tests.{eq-eqb}
-use Rattle.laws.proofs.Tests.{true_false, neither}
+use Rattle.std.proofs.lemmas.Bool.{or_parts}
+use Rattle.std.proofs.lemmas.List.{map-append}
 use Rattle.conduct.specs.Lists.{flat, some, among}
 use Rattle.conduct.specs.Pushes.{terms_of}
 use Rattle.conduct.specs.Session.{Session, awaited_numbers, push_numbers, held}
@@ -17,12 +19,10 @@ use Rattle.conduct.specs.History.Bearing.{ticked, acknowledged, unreadable_messa
 use Rattle.conduct.specs.Followed.{most_resendings, due_for}
 use Rattle.conduct.specs.Swapped.{Names, says_of, once_more, stays_by, judged, unmatched_in, says_of_session_ok, heard_in}
 use Rattle.conduct.specs.Swapped.{NothingOpenNamed, OneAfterOther, OnePushNamedTwice, SessionOkNamed, SessionOkNamedTwice}
-use Rattle.conduct.specs.declared.Awaited.{Awaited}
-use Rattle.conduct.specs.declared.Awaited.TheVariants as awaited
 use Rattle.conduct.specs.declared.Site.{Site}
 use Rattle.conduct.specs.declared.Push.{Push}
 use Rattle.conduct.specs.declared.Call.{Call}
-use Rattle.conduct.proofs.Lists.{map_append, among_append, distinct_head}
+use Rattle.conduct.proofs.Lists.{among_append, distinct_head}
 use Rattle.conduct.proofs.Good.{good}
 use Rattle.conduct.proofs.Reached.{sound_step}
 use Rattle.conduct.proofs.Story.{tick_in}
@@ -37,21 +37,21 @@ due_closes : (p : Push) (left : Bool) (b : Bearing) → some is_closing (map (sa
     → flat (stays_by p) (due_for left false (b ∷ [])) ≡ []
 due_closes p left ticked h = refl
 due_closes p left acknowledged h = refl
-due_closes p true unreadable_message h = absurd (true_false h refl)
+due_closes p true unreadable_message h = cc
 due_closes p false unreadable_message h = refl
 due_closes p left advised h = refl
 
 due_again : (p : Push) (left : Bool) (b : Bearing) → tick_in (b ∷ []) ≡ 0 → some is_closing (map (says_of p) (due_for left false (b ∷ []))) ≡ false
     → (b ≡ unreadable_message) × (left ≡ true)
 due_again p left ticked message h = absurd (omega (arith, message))
-due_again p left acknowledged message h = absurd (true_false refl h)
+due_again p left acknowledged message h = cc
 due_again p true unreadable_message message h = (refl, refl)
-due_again p false unreadable_message message h = absurd (true_false refl h)
-due_again p left advised message h = absurd (true_false refl h)
+due_again p false unreadable_message message h = cc
+due_again p left advised message h = cc
 
 -- ---- nothing open has the number
 
-unmatched_up : (site : Site) (last : ℕ) (w : Awaited) (age : ℕ) (ps : List Push) (n : ℕ) (c : Call) → Names c n
+unmatched_up : (site : Site) (last : ℕ) (w : Option ℕ) (age : ℕ) (ps : List Push) (n : ℕ) (c : Call) → Names c n
     → among n (awaited_numbers w) ≡ false → among n (push_numbers ps) ≡ false
     → let s : Session = up_with site last w age ps in
     sound s ≡ true → step s c ≡ unmatched_in s
@@ -63,13 +63,13 @@ pub nothing_open_named : NothingOpenNamed
 nothing_open_named s n a ok up none x =
     in_up_lem (λ (t : Session). among n (held t) ≡ false → step t a ≡ unmatched_in t) s up
     (λ w age ok none.
-    let e = neither (among n (awaited_numbers w)) (among n (push_numbers s.pushes)) (sym (among_append n (awaited_numbers w) (push_numbers s.pushes)) ∙ none) in
+    let e = or_parts (among n (awaited_numbers w)) (among n (push_numbers s.pushes)) (sym (among_append n (awaited_numbers w) (push_numbers s.pushes)) ∙ none) in
     unmatched_up s.site s.last w age s.pushes n a x e.0 e.1 ok)
     ok none
 
 -- ---- a second message about the push
 
-module _ (site : Site) (last : ℕ) (w : Awaited) (age : ℕ) (before : List Push) (p : Push) (behind : List Push) (a b : Call)
+module _ (site : Site) (last : ℕ) (w : Option ℕ) (age : ℕ) (before : List Push) (p : Push) (behind : List Push) (a b : Call)
     (x : Names a p.number) (y : Names b p.number) (ok : sound (up_with site last w age (before ++ p ∷ behind)) ≡ true)
   where
     abbrev n : ℕ
@@ -87,7 +87,7 @@ module _ (site : Site) (last : ℕ) (w : Awaited) (age : ℕ) (before : List Pus
     gone : among n (push_numbers (before ++ behind)) ≡ false
     gone =
         let none = others site last w age before p behind ok in
-        rw (map_append (λ (q : Push). q.number) before behind, among_append n (push_numbers before) (push_numbers behind), none.0, none.1)
+        rw (map-append (λ (q : Push). q.number) before behind, among_append n (push_numbers before) (push_numbers behind), none.0, none.1)
 
     decides : some is_closing (step s a).events ≡ true → step (step s a).next b ≡ unmatched_in (step s a).next
     decides h =
@@ -126,23 +126,23 @@ one_push_named_twice s before behind p a b ok up is x y =
 
 module _ (site : Site) (last n age : ℕ) (ps : List Push) where
   abbrev waiting : Session
-  waiting = up_with site last (awaited.Ok n) age ps
+  waiting = up_with site last (Some n) age ps
 
   abbrev heard : Session
-  heard = up_with site last awaited.Nothing age ps
+  heard = up_with site last None age ps
 
   unpushed : sound waiting ≡ true → among n (push_numbers ps) ≡ false
   unpushed ok = distinct_head n (push_numbers ps) (good {s = waiting} ok).numbers_are
 
   answered_up : (a : Call) (x : Names a n) → sound waiting ≡ true → step waiting a ≡ record { refusal = 0; next = heard; events = says_of_session_ok x.bearing }
   answered_up a x ok =
-      named_step site last (awaited.Ok n) age ps n a x (good {s = waiting} ok).numbers_are
+      named_step site last (Some n) age ps n a x (good {s = waiting} ok).numbers_are
       ∙ rw (eq-eqb n n refl, (all_aside (terms_of site) n x.bearing ps (unpushed ok)).0)
 
   twice_up : (a b : Call) → Names a n → Names b n → sound waiting ≡ true → step (step waiting a).next b ≡ unmatched_in (step waiting a).next
   twice_up a b x y ok =
       subst⁻¹ (λ (t : Session). sound t ≡ true → step t b ≡ unmatched_in t) (ap (λ (t : Answered). t.next) (answered_up a x ok))
-      (unmatched_up site last awaited.Nothing age ps n b y refl (unpushed ok)) (sound_step waiting a ok)
+      (unmatched_up site last None age ps n b y refl (unpushed ok)) (sound_step waiting a ok)
 
 pub session_ok_named : SessionOkNamed
 session_ok_named s n age a ok e x =

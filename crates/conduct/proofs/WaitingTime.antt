@@ -2,11 +2,12 @@
 use mathlib.Core.Path.{◌≡◌, refl, ap, ◌∙◌}
 use mathlib.Core.Bool.{true}
 use mathlib.Core.List.{[], ◌∷◌}
-use Prim.Native.Nat.{ℕ, ◌+◌, ◌-◌, ◌<◌}
+use Prim.Native.Nat.{ℕ, ◌+◌, ◌<◌}
 use native.Mathlib.Omega.{arith}
-use lib.Dec.{leb, ltb}
-use borrow.Author.Tests.{ltb-true, lt-ltb, leb-true}
-use Rattle.message.proofs.Laws.{cond_cases}
+use lib.Dec.{leb}
+use borrow.Author.Tests.{lt-ltb, leb-true}
+use Rattle.std.proofs.lemmas.Bool.{and_parts}
+use Rattle.std.proofs.lemmas.Bool.Decides.{nat_tests}
 use Rattle.conduct.specs.Session.{Session, state_number}
 use Rattle.conduct.specs.Sound.{sound_state}
 use Rattle.conduct.specs.Rules.{tick}
@@ -16,8 +17,6 @@ use Rattle.conduct.specs.Timers.{WaitingLasts}
 use Rattle.conduct.specs.declared.State.{State}
 use Rattle.conduct.specs.declared.State.TheVariants.{Waiting, Connecting}
 use Rattle.conduct.specs.declared.Call.TheVariants as calls
-use Rattle.conduct.specs.declared.Move.{Move}
-use Rattle.conduct.proofs.Lists.{both_of}
 use Rattle.conduct.proofs.Reached.{reached_is_sound}
 use Rattle.conduct.proofs.Good.{good}
 use Rattle.conduct.proofs.Clocks.{tick_taken}
@@ -29,11 +28,7 @@ Left left a state = (more : ℕ) × (state ≡ Waiting more) × (more + a ≡ le
 
 waiting_on : (left interval next a : ℕ) (state : State) → Left left a state → state_number (tick interval next state).to ≡ 1
     → Left left (a + 1) (tick interval next state).to
-waiting_on left interval next a state h =
-    rw h.1
-    (cond_cases (λ (m : Move). state_number m.to ≡ 1 → Left left (a + 1) m.to) (ltb 1 h.0)
-    (λ l n. (h.0 - 1, refl, omega (arith, ltb-true 1 h.0 l, h.2)))
-    (λ l n. absurd (omega arith)))
+waiting_on left interval next a state h = grind (arith, nat_tests)
 
 waiting_quiet : (t : Session) (more : ℕ) → t.state ≡ Waiting more → 1 < more
     → (codes_of (step t calls.Tick).events ≡ []) × (state_number (step t calls.Tick).next.state ≡ 1)
@@ -52,7 +47,7 @@ waiting_lasts s cs left ok e st =
     in
     let more = now.0 in
     let sound_now : sound_state t.site.interval (Waiting more) ≡ true = rw now.1 at (good {s = t} (reached_is_sound s cs ok)).state_is in
-    let some_left = leb-true 1 more (both_of (leb 1 more) _ sound_now).0 in
+    let some_left = leb-true 1 more (and_parts (leb 1 more) _ sound_now).0 in
     record {
       shorter = omega (arith, now.2, some_left);
       quiet = λ h. waiting_quiet t more now.1 (omega (arith, now.2));

@@ -1,17 +1,14 @@
 -- Promise: the rules at work: what is done with each kind in each linked state, and what values mean. (proofs/TableAtWork, ValuesAtWork)
 -- Assumes nothing.
-use Rattle.std.specs.Prelude.{false, List, [], ◌∷◌, ℕ}
+use Rattle.std.specs.Prelude.{false, List, [], ◌∷◌, ℕ, Option, None, Some}
 use Rattle.message.specs.Messages.{message, no_number}
 use Rattle.message.specs.declared.Kind.{Kind}
 use Rattle.message.specs.declared.Kind.TheVariants as kinds
-use Rattle.message.specs.declared.Number.TheVariants as numbers
+use Rattle.message.specs.declared.Value.{Value}
 use Rattle.message.specs.declared.Status.{Status}
 use Rattle.message.specs.declared.Status.TheVariants as statuses
 use Rattle.message.specs.declared.Advice.{Advice}
 use Rattle.message.specs.declared.Advice.TheVariants as advices
-use Rattle.message.specs.declared.NumberValue.{NumberValue}
-use Rattle.message.specs.declared.StatusValue.{StatusValue}
-use Rattle.message.specs.declared.TypeValue.{TypeValue}
 use Rattle.conduct.specs.declared.Call.{Call}
 use Rattle.conduct.specs.declared.Call.TheVariants as calls
 use Rattle.conduct.specs.Scripts.{ticking, push, meaning, naming, of_status, of_type, bare, answer_with, ok_with, advisory_with}
@@ -46,17 +43,17 @@ TableAtWork =
     ∷ [])
 
 -- values that are not there, although their meaning says something
-abbrev pub absent : ℕ → NumberValue
-absent n = record { there = false; place = 0; length = 0; number = numbers.Names n }
+abbrev pub absent : ℕ → Value (Option ℕ)
+absent n = record { there = false; place = 0; length = 0; meaning = Some n }
 
-abbrev pub absent_status : Status → StatusValue
-absent_status status = record { there = false; place = 0; length = 0; status = status }
+abbrev pub absent_status : Status → Value Status
+absent_status status = record { there = false; place = 0; length = 0; meaning = status }
 
-abbrev pub absent_type : Advice → TypeValue
-absent_type advice = record { there = false; place = 0; length = 0; advice = advice }
+abbrev pub absent_type : Advice → Value Advice
+absent_type advice = record { there = false; place = 0; length = 0; meaning = advice }
 
 -- a message that names n by every value but one of its own
-abbrev pub elsewhere : Kind → ℕ → NumberValue → NumberValue → List Call
+abbrev pub elsewhere : Kind → ℕ → Value (Option ℕ) → Value (Option ℕ) → List Call
 elsewhere kind n in_response_to in_relation_to =
     calls.Heard (message kind (of_status statuses.Ok) (naming n) in_response_to in_relation_to (of_type advices.UnreadableMessage)) ∷ []
 
@@ -67,19 +64,19 @@ ValuesAtWork =
     in_opening 21 (answer_with (absent_status statuses.Ok) ∷ []) (event 3 7 0 0 ∷ []) 1 0
     ∷ in_opening 21 (answer_with (absent_status statuses.RedundantSession) ∷ []) (event 3 7 0 0 ∷ []) 1 0
     ∷  -- an inResponseTo that is not there, or is no number, names nothing
-    in_confirming 21 (ok_with (absent 2) ∷ ok_with (meaning numbers.Nothing) ∷ []) (event 4 15 0 0 ∷ event 5 15 0 0 ∷ []) 4 0
-    ∷ in_up 21 (push 7 ∷ ok_with (absent 3) ∷ ok_with (meaning numbers.Nothing) ∷ [])
+    in_confirming 21 (ok_with (absent 2) ∷ ok_with (meaning None) ∷ []) (event 4 15 0 0 ∷ event 5 15 0 0 ∷ []) 4 0
+    ∷ in_up 21 (push 7 ∷ ok_with (absent 3) ∷ ok_with (meaning None) ∷ [])
     (event 5 4 3 7 ∷ event 6 15 0 0 ∷ event 7 15 0 0 ∷ []) 5 1
-    ∷ in_up 21 (ticking 21 ∷ ok_with (absent 3) ∷ ok_with (meaning numbers.Nothing) ∷ ticking 20 ∷ [])
+    ∷ in_up 21 (ticking 21 ∷ ok_with (absent 3) ∷ ok_with (meaning None) ∷ ticking 20 ∷ [])
     (event 25 3 3 0 ∷ event 26 15 0 0 ∷ event 27 15 0 0 ∷ event 47 19 4 0 ∷ event 47 7 0 0 ∷ []) 1 0
     ∷  -- an inRelationTo that is not there: 17; one that is no number: 15
     in_confirming 21
-    (advisory_with (absent 2) (of_type advices.Other) ∷ advisory_with (meaning numbers.Nothing) (of_type advices.Other) ∷ [])
+    (advisory_with (absent 2) (of_type advices.Other) ∷ advisory_with (meaning None) (of_type advices.Other) ∷ [])
     (event 4 17 0 0 ∷ event 5 15 0 0 ∷ []) 4 0
     ∷ in_up 21
     (push 7
     ∷ advisory_with (absent 3) (of_type advices.UnreadableMessage)
-    ∷ advisory_with (meaning numbers.Nothing) (of_type advices.UnreadableMessage)
+    ∷ advisory_with (meaning None) (of_type advices.UnreadableMessage)
     ∷ [])
     (event 5 4 3 7 ∷ event 6 17 0 0 ∷ event 7 15 0 0 ∷ []) 5 1
     ∷ in_up 21 (ticking 21 ∷ advisory_with (absent 3) (of_type advices.Other) ∷ ticking 20 ∷ [])

@@ -1,6 +1,6 @@
 -- Promise: the rules at work: making, refused calls, and the test behind 27. (proofs/MakingAtWork, RefusalsAtWork, SoundAtWork)
 -- Assumes nothing.
-use Rattle.std.specs.Prelude.{◌≡◌, true, false, List, [], ◌∷◌, ◌++◌, map, ℕ, drop}
+use Rattle.std.specs.Prelude.{◌≡◌, true, false, List, [], ◌∷◌, ◌++◌, map, ℕ, drop, None, Some}
 use Rattle.message.specs.declared.Kind.TheVariants as kinds
 use Rattle.conduct.specs.Lists.{some, all}
 use Rattle.conduct.specs.Session.{Session, usual, with_resends, fresh, Made, make}
@@ -8,7 +8,6 @@ use Rattle.conduct.specs.Sound.{sound}
 use Rattle.conduct.specs.Scripts.{ticking, connected, lost, stop, push, advise, unreadable, bare, ok, advisory}
 use Rattle.conduct.specs.Scripts.{AllAsDue, example, in_connecting, in_opening, in_confirming, in_up, to_up, going_on, full, full_numbers}
 use Rattle.conduct.specs.Scripts.Line.{event, refused}
-use Rattle.conduct.specs.declared.Awaited.TheVariants as awaited
 use Rattle.conduct.specs.declared.State.{State}
 use Rattle.conduct.specs.declared.State.TheVariants.{Waiting, Connecting, Opening, Confirming, Up, Stopped}
 use Rattle.conduct.specs.declared.Push.{Push}
@@ -137,19 +136,19 @@ in_states states pushes = map (λ (state : State). session_with 21 state pushes)
 
 -- in Up, beside an open SessionOk of the number 2
 abbrev pub up_with : List (List Push) → List Session
-up_with rows = map (λ (pushes : List Push). session_with 21 (Up (awaited.Ok 2) 0) pushes) rows
+up_with rows = map (λ (pushes : List Push). session_with 21 (Up (Some 2) 0) pushes) rows
 
 -- in Up, at a site with so many resends
 abbrev pub up_resending : ℕ → List (List Push) → List Session
 up_resending resends rows =
-    map (λ (pushes : List Push). record { site = with_resends resends (usual 21); state = Up awaited.Nothing 0; pushes = pushes; last = 0 }) rows
+    map (λ (pushes : List Push). record { site = with_resends resends (usual 21); state = Up None 0; pushes = pushes; last = 0 }) rows
 
 abbrev pub passing : List Session
 passing =
-    session_with 6000 (Up awaited.Nothing 5999) []
-    ∷ session_with 21 (Up awaited.Nothing 0) (responses (2 ∷ []))
+    session_with 6000 (Up None 5999) []
+    ∷ session_with 21 (Up None 0) (responses (2 ∷ []))
     ∷ in_states (Waiting 1 ∷ Waiting 300 ∷ Connecting ∷ Opening 0 ∷ Opening 19 ∷ Confirming 2 0 ∷ Confirming 2 19 ∷ Stopped ∷ []) []
-    ++ in_states (Up (awaited.Ok 2) 0 ∷ Up (awaited.Ok 2) 19 ∷ Up awaited.Nothing 0 ∷ Up awaited.Nothing 20 ∷ []) []
+    ++ in_states (Up (Some 2) 0 ∷ Up (Some 2) 19 ∷ Up None 0 ∷ Up None 20 ∷ []) []
     ++ up_with
     ((a_push Response 4 1 0 ∷ a_push Response 3 1 19 ∷ a_push Response 0 2 0 ∷ a_push Response 4294967295 2 19 ∷ [])
     ∷ (a_push Advisory 4 1 0 ∷ a_push Advisory 5 1 19 ∷ [])
@@ -163,12 +162,12 @@ passing =
 abbrev pub in_all : ℕ → List Session
 in_all interval =
     map (λ (state : State). session_with interval state [])
-    (Waiting 1 ∷ Connecting ∷ Opening 0 ∷ Confirming 2 0 ∷ Up (awaited.Ok 2) 0 ∷ Up awaited.Nothing 0 ∷ Stopped ∷ [])
+    (Waiting 1 ∷ Connecting ∷ Opening 0 ∷ Confirming 2 0 ∷ Up (Some 2) 0 ∷ Up None 0 ∷ Stopped ∷ [])
 
 abbrev pub failing : List Session
 failing =
     in_all 20 ++ in_all 6001
-    ++ in_states (Waiting 0 ∷ Waiting 301 ∷ Opening 20 ∷ Confirming 2 20 ∷ Up (awaited.Ok 2) 20 ∷ Up awaited.Nothing 21 ∷ []) []
+    ++ in_states (Waiting 0 ∷ Waiting 301 ∷ Opening 20 ∷ Confirming 2 20 ∷ Up (Some 2) 20 ∷ Up None 21 ∷ []) []
     ++ in_states (Waiting 1 ∷ Connecting ∷ Opening 0 ∷ Confirming 2 0 ∷ Stopped ∷ []) (responses (4 ∷ []))
     ++ up_with
     ((a_push Response 4 0 0 ∷ [])

@@ -45,11 +45,11 @@ is_open_response kinds.Response = false
 
 -- its status is there and is RedundantSession
 abbrev pub says_redundant : Message → Bool
-says_redundant m = m.status.there && is_redundant_session m.status.status
+says_redundant m = m.status.there && is_redundant_session m.status.meaning
 
 -- its status is there and opens the session: Ok, and in the old conduct RedundantSession too
 abbrev pub opens_in : Conduct → Message → Bool
-opens_in k m = m.status.there && (is_ok m.status.status || (is_old k && is_redundant_session m.status.status))
+opens_in k m = m.status.there && (is_ok m.status.meaning || (is_old k && is_redundant_session m.status.meaning))
 
 -- ---- a SessionOpenResponse in Opening, for every session that was made or reached from one
 
@@ -87,7 +87,7 @@ abbrev pub with_status : Status → Message → Message
 with_status status m =
     record {
       kind = m.kind;
-      status = record { there = m.status.there; place = m.status.place; length = m.status.length; status = status };
+      status = record { there = m.status.there; place = m.status.place; length = m.status.length; meaning = status };
       id = m.id;
       in_response_to = m.in_response_to;
       in_relation_to = m.in_relation_to;

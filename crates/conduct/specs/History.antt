@@ -1,13 +1,11 @@
 -- What a host sees of a session over any calls: each call with its refusal, its events and the state after it. A push is a place in this history, and its number
 -- names it until the number is given again. Nothing here looks at the pushes of a session, and codes stand here as the paper's numbers. Assumes nothing.
-use Rattle.std.specs.Prelude.{Bool, true, false, cond, ◌&&◌, ◌||◌, List, [], ◌∷◌, map, ℕ, leb, eqb, length}
+use Rattle.std.specs.Prelude.{Bool, true, false, cond, ◌&&◌, ◌||◌, List, [], ◌∷◌, map, ℕ, leb, eqb, length, Option, None, Some}
 use Rattle.message.specs.declared.Kind.{Kind}
 use Rattle.message.specs.declared.Kind.TheVariants as kinds
-use Rattle.message.specs.declared.Number.{Number}
-use Rattle.message.specs.declared.Number.TheVariants as numbers
+use Rattle.message.specs.declared.Value.{Value}
 use Rattle.message.specs.declared.Advice.{Advice}
 use Rattle.message.specs.declared.Advice.TheVariants as advices
-use Rattle.message.specs.declared.NumberValue.{NumberValue}
 use Rattle.message.specs.declared.Message.{Message}
 use Rattle.conduct.specs.Lists.{flat, those, some}
 use Rattle.conduct.specs.Session.{Session}
@@ -54,12 +52,12 @@ abbrev pub ticks : List Entry → ℕ
 ticks xs = length (those (λ (x : Entry). accepted x && is_tick x.call) xs)
 
 -- whether a value that is there names n
-abbrev pub names_number : ℕ → Number → Bool
-names_number n numbers.Nothing = false
-names_number n (numbers.Names m) = eqb m n
+abbrev pub names_number : ℕ → Option ℕ → Bool
+names_number n None = false
+names_number n (Some m) = eqb m n
 
-abbrev pub names : ℕ → NumberValue → Bool
-names n value = value.there && names_number n value.number
+abbrev pub names : ℕ → Value (Option ℕ) → Bool
+names n value = value.there && names_number n value.meaning
 
 abbrev pub is_unreadable_message : Advice → Bool
 is_unreadable_message advices.UnreadableMessage = true
@@ -78,7 +76,7 @@ advice_bearing false = advised
 
 -- its advisoryType is there and is UnreadableMessage
 abbrev pub says_unreadable : Message → Bool
-says_unreadable m = m.advisory_type.there && is_unreadable_message m.advisory_type.advice
+says_unreadable m = m.advisory_type.there && is_unreadable_message m.advisory_type.meaning
 
 abbrev pub message_bearing : ℕ → Message → Kind → List Bearing
 message_bearing n m kinds.SessionOpenRequest = []

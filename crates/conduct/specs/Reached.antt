@@ -1,12 +1,11 @@
 -- Promise: sessions that come about: each made one passes the test behind 27, and so does each that is reached from one that passes. (proofs/Reached, Tested)
 -- Assumes nothing.
-use Rattle.std.specs.Prelude.{◌≡◌, true, List, ◌∷◌, ◌++◌, map, ℕ, ◌+◌, ◌≤◌, ◌<◌, length}
+use Rattle.std.specs.Prelude.{◌≡◌, true, List, ◌∷◌, ◌++◌, map, ℕ, ◌+◌, ◌≤◌, ◌<◌, length, None, Some}
 use Rattle.conduct.specs.Lists.{distinct}
 use Rattle.conduct.specs.Session.{Session, make, session_ok_numbers}
 use Rattle.conduct.specs.Sound.{sound}
 use Rattle.conduct.specs.History.{session_after}
 use Rattle.conduct.specs.Followed.{most_resendings}
-use Rattle.conduct.specs.declared.Awaited.TheVariants as awaited
 use Rattle.conduct.specs.declared.State.{State}
 use Rattle.conduct.specs.declared.State.TheVariants.{Waiting, Connecting, Opening, Confirming, Up, Stopped}
 use Rattle.conduct.specs.declared.Site.{Site}
@@ -27,8 +26,8 @@ TimerIn interval (Waiting left) = (1 ≤ left) × (left ≤ 300)
 TimerIn interval Connecting = Unit {0}
 TimerIn interval (Opening age) = age < 20
 TimerIn interval (Confirming number age) = age < 20
-TimerIn interval (Up (awaited.Ok number) age) = age < 20
-TimerIn interval (Up awaited.Nothing age) = age < interval
+TimerIn interval (Up (Some number) age) = age < 20
+TimerIn interval (Up None age) = age < interval
 TimerIn interval Stopped = Unit {0}
 
 pub record Tested (s : Session) : Type 0 where

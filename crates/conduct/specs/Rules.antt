@@ -1,21 +1,16 @@
 -- What each call does in each state, rule by rule (document 01, "The session"). Assumes nothing.
-use Rattle.std.specs.Prelude.{cond, ℕ, ◌+◌, ◌-◌, ltb, eqb}
-use Rattle.message.specs.declared.Number.{Number}
-use Rattle.message.specs.declared.Number.TheVariants as numbers
+use Rattle.std.specs.Prelude.{cond, ℕ, ◌+◌, ◌-◌, ltb, eqb, Option, None, Some}
+use Rattle.message.specs.declared.Value.{Value}
 use Rattle.message.specs.declared.Status.{Status}
 use Rattle.message.specs.declared.Status.TheVariants as statuses
 use Rattle.message.specs.declared.Advice.{Advice}
 use Rattle.message.specs.declared.Advice.TheVariants as advices
-use Rattle.message.specs.declared.NumberValue.{NumberValue}
-use Rattle.message.specs.declared.StatusValue.{StatusValue}
-use Rattle.message.specs.declared.TypeValue.{TypeValue}
 use Rattle.message.specs.declared.Message.{Message}
 use Rattle.conduct.specs.Lists.{among}
 use Rattle.conduct.specs.Codes as codes
 use Rattle.conduct.specs.Numbers.{next_free}
 use Rattle.conduct.specs.Session.{Session, held, push_numbers, awaited_numbers}
 use Rattle.conduct.specs.Table.{action_of}
-use Rattle.conduct.specs.declared.Awaited.TheVariants as awaited
 use Rattle.conduct.specs.declared.State.{State}
 use Rattle.conduct.specs.declared.State.TheVariants.{Waiting, Connecting, Opening, Confirming, Up, Stopped}
 use Rattle.conduct.specs.declared.Call.{Call}
@@ -64,9 +59,9 @@ tick interval next (Waiting left) = cond (ltb 1 left) (goes (Waiting (left - 1))
 tick interval next Connecting = goes Connecting remarks.Nothing
 tick interval next (Opening age) = cond (ltb age 19) (goes (Opening (age + 1)) remarks.Nothing) (waits partings.Alert)
 tick interval next (Confirming number age) = cond (ltb age 19) (goes (Confirming number (age + 1)) remarks.Nothing) (waits partings.GoingOut)
-tick interval next (Up (awaited.Ok number) age) = cond (ltb age 19) (ages (Up (awaited.Ok number) (age + 1)) remarks.Nothing) (waits partings.GoingOut)
-tick interval next (Up awaited.Nothing age) =
-    cond (ltb (age + 1) interval) (ages (Up awaited.Nothing (age + 1)) remarks.Nothing) (ages (Up (awaited.Ok next) 0) (note codes.send_session_ok))
+tick interval next (Up (Some number) age) = cond (ltb age 19) (ages (Up (Some number) (age + 1)) remarks.Nothing) (waits partings.GoingOut)
+tick interval next (Up None age) =
+    cond (ltb (age + 1) interval) (ages (Up None (age + 1)) remarks.Nothing) (ages (Up (Some next) 0) (note codes.send_session_ok))
 tick interval next Stopped = goes Stopped remarks.Nothing
 
 -- ---- the host's other calls
@@ -87,14 +82,14 @@ stop Stopped = leaves Stopped partings.Nothing
 
 -- ---- what a message's values say; where a value is not there, it names nothing and means other
 
-abbrev pub named_by : NumberValue → Number
-named_by value = cond value.there value.number numbers.Nothing
+abbrev pub named_by : Value (Option ℕ) → Option ℕ
+named_by value = cond value.there value.meaning None
 
-abbrev pub status_by : StatusValue → Status
-status_by value = cond value.there value.status statuses.Other
+abbrev pub status_by : Value Status → Status
+status_by value = cond value.there value.meaning statuses.Other
 
-abbrev pub advice_by : TypeValue → Advice
-advice_by value = cond value.there value.advice advices.Other
+abbrev pub advice_by : Value Advice → Advice
+advice_by value = cond value.there value.meaning advices.Other
 
 -- ---- Opening: the answer to the SessionOpenRequest
 
@@ -120,15 +115,15 @@ abbrev pub ok_naming : Session → ℕ → State → Move
 ok_naming s n (Waiting left) = matches_nothing (Waiting left)
 ok_naming s n Connecting = matches_nothing Connecting
 ok_naming s n (Opening age) = matches_nothing (Opening age)
-ok_naming s n (Confirming number age) = cond (eqb n number) (goes (Up awaited.Nothing age) (note codes.up)) (matches_nothing (Confirming number age))
+ok_naming s n (Confirming number age) = cond (eqb n number) (goes (Up None age) (note codes.up)) (matches_nothing (Confirming number age))
 ok_naming s n (Up waiting age) =
-    cond (among n (awaited_numbers waiting)) (goes (Up awaited.Nothing age) remarks.Nothing)
+    cond (among n (awaited_numbers waiting)) (goes (Up None age) remarks.Nothing)
     (cond (among n (push_numbers s.pushes)) (touches (Up waiting age) (sweeps.Acknowledged n)) (matches_nothing (Up waiting age)))
 ok_naming s n Stopped = matches_nothing Stopped
 
-abbrev pub acknowledged : Session → Number → Move
-acknowledged s numbers.Nothing = matches_nothing s.state
-acknowledged s (numbers.Names n) = ok_naming s n s.state
+abbrev pub acknowledged : Session → Option ℕ → Move
+acknowledged s None = matches_nothing s.state
+acknowledged s (Some n) = ok_naming s n s.state
 
 -- what an Advisory does to the push that it names
 abbrev pub advises : Advice → ℕ → Sweep
@@ -141,18 +136,18 @@ advisory_naming s advice n Connecting = matches_nothing Connecting
 advisory_naming s advice n (Opening age) = matches_nothing (Opening age)
 advisory_naming s advice n (Confirming number age) = cond (eqb n number) (waits partings.Disconnect) (matches_nothing (Confirming number age))
 advisory_naming s advice n (Up waiting age) =
-    cond (among n (awaited_numbers waiting)) (goes (Up awaited.Nothing age) (note codes.advisory_arrived))
+    cond (among n (awaited_numbers waiting)) (goes (Up None age) (note codes.advisory_arrived))
     (cond (among n (push_numbers s.pushes)) (touches (Up waiting age) (advises advice n)) (matches_nothing (Up waiting age)))
 advisory_naming s advice n Stopped = matches_nothing Stopped
 
-abbrev pub advised_about : Session → Advice → Number → Move
-advised_about s advice numbers.Nothing = matches_nothing s.state
-advised_about s advice (numbers.Names n) = advisory_naming s advice n s.state
+abbrev pub advised_about : Session → Advice → Option ℕ → Move
+advised_about s advice None = matches_nothing s.state
+advised_about s advice (Some n) = advisory_naming s advice n s.state
 
 -- without inRelationTo it closes nothing
 abbrev pub advised : Session → Message → Move
 advised s m =
-    cond m.in_relation_to.there (advised_about s (advice_by m.advisory_type) m.in_relation_to.number) (goes s.state (note codes.advisory_arrived))
+    cond m.in_relation_to.there (advised_about s (advice_by m.advisory_type) m.in_relation_to.meaning) (goes s.state (note codes.advisory_arrived))
 
 -- ---- a message, by the table
 

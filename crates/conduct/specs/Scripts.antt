@@ -1,18 +1,14 @@
 -- Scripts of calls on a session and what is due from them, in the terms of the program `replay`: words for the rules at work.
 -- Assumes nothing.
-use Rattle.std.specs.Prelude.{◌≡◌, true, cond, List, [], ◌∷◌, ◌++◌, map, ℕ, suc, eqb, length, replicate}
+use Rattle.std.specs.Prelude.{◌≡◌, true, cond, List, [], ◌∷◌, ◌++◌, map, ℕ, suc, eqb, length, replicate, Option, Some}
 use Rattle.message.specs.Messages.{message, no_number, no_status, no_type}
 use Rattle.message.specs.declared.Kind.{Kind}
 use Rattle.message.specs.declared.Kind.TheVariants as kinds
-use Rattle.message.specs.declared.Number.{Number}
-use Rattle.message.specs.declared.Number.TheVariants as numbers
+use Rattle.message.specs.declared.Value.{Value}
 use Rattle.message.specs.declared.Status.{Status}
 use Rattle.message.specs.declared.Status.TheVariants as statuses
 use Rattle.message.specs.declared.Advice.{Advice}
 use Rattle.message.specs.declared.Advice.TheVariants as advices
-use Rattle.message.specs.declared.NumberValue.{NumberValue}
-use Rattle.message.specs.declared.StatusValue.{StatusValue}
-use Rattle.message.specs.declared.TypeValue.{TypeValue}
 use Rattle.conduct.specs.Lists.{flat}
 use Rattle.conduct.specs.Session.{Session, usual, fresh, state_number}
 use Rattle.conduct.specs.History.{Entry, history, session_after}
@@ -54,24 +50,24 @@ unreadable refusal = calls.Unreadable refusal ∷ []
 -- ---- messages
 
 -- values that are there; no rule looks at place and length
-abbrev pub meaning : Number → NumberValue
-meaning number = record { there = true; place = 20; length = 1; number = number }
+abbrev pub meaning : Option ℕ → Value (Option ℕ)
+meaning number = record { there = true; place = 20; length = 1; meaning = number }
 
-abbrev pub naming : ℕ → NumberValue
-naming n = meaning (numbers.Names n)
+abbrev pub naming : ℕ → Value (Option ℕ)
+naming n = meaning (Some n)
 
-abbrev pub of_status : Status → StatusValue
-of_status status = record { there = true; place = 30; length = 33; status = status }
+abbrev pub of_status : Status → Value Status
+of_status status = record { there = true; place = 30; length = 33; meaning = status }
 
-abbrev pub of_type : Advice → TypeValue
-of_type advice = record { there = true; place = 60; length = 17; advice = advice }
+abbrev pub of_type : Advice → Value Advice
+of_type advice = record { there = true; place = 60; length = 17; meaning = advice }
 
 -- one of a kind that carries no value
 abbrev pub bare : Kind → List Call
 bare kind = calls.Heard (message kind no_status no_number no_number no_number no_type) ∷ []
 
 -- a SessionOpenResponse, and one of each status
-abbrev pub answer_with : StatusValue → List Call
+abbrev pub answer_with : Value Status → List Call
 answer_with status = calls.Heard (message kinds.SessionOpenResponse status no_number no_number no_number no_type) ∷ []
 
 abbrev pub answer_ok : List Call
@@ -84,14 +80,14 @@ abbrev pub answer_other : List Call
 answer_other = answer_with (of_status statuses.Other)
 
 -- an Ok, and one that names n
-abbrev pub ok_with : NumberValue → List Call
+abbrev pub ok_with : Value (Option ℕ) → List Call
 ok_with value = calls.Heard (message kinds.Ok no_status no_number value no_number no_type) ∷ []
 
 abbrev pub ok : ℕ → List Call
 ok n = ok_with (naming n)
 
 -- an Advisory; one about n, an UnreadableMessage or another; and one without inRelationTo
-abbrev pub advisory_with : NumberValue → TypeValue → List Call
+abbrev pub advisory_with : Value (Option ℕ) → Value Advice → List Call
 advisory_with value type = calls.Heard (message kinds.Advisory no_status no_number no_number value type) ∷ []
 
 abbrev pub unreadable_message : ℕ → List Call

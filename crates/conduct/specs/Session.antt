@@ -1,8 +1,6 @@
 -- A session (document 01, "The session"), the numbers that it holds, and which calls it refuses. Assumes nothing.
-use Rattle.std.specs.Prelude.{Bool, true, false, cond, not, ◌&&◌, ◌||◌, List, [], ◌∷◌, ◌++◌, map, ℕ, leb, ltb, length}
+use Rattle.std.specs.Prelude.{Bool, true, false, cond, not, ◌&&◌, ◌||◌, List, [], ◌∷◌, ◌++◌, map, ℕ, leb, ltb, length, Option, None, Some}
 use Rattle.conduct.specs.Pushes.{most_resends}
-use Rattle.conduct.specs.declared.Awaited.{Awaited}
-use Rattle.conduct.specs.declared.Awaited.TheVariants as awaited
 use Rattle.conduct.specs.declared.State.{State}
 use Rattle.conduct.specs.declared.State.TheVariants.{Waiting, Connecting, Opening, Confirming, Up, Stopped}
 use Rattle.conduct.specs.declared.Conduct.{Conduct}
@@ -109,9 +107,9 @@ is_stopped Stopped = true
 
 -- ---- the numbers that are held: the open SessionOk's and the open pushes'
 
-abbrev pub awaited_numbers : Awaited → List ℕ
-awaited_numbers awaited.Nothing = []
-awaited_numbers (awaited.Ok n) = n ∷ []
+abbrev pub awaited_numbers : Option ℕ → List ℕ
+awaited_numbers None = []
+awaited_numbers (Some n) = n ∷ []
 
 abbrev pub session_ok_numbers : State → List ℕ
 session_ok_numbers (Waiting left) = []

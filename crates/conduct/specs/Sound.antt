@@ -1,9 +1,8 @@
 -- The test behind refusal 27: what every session has that was made or reached from one; others may have it too. docs/CONSISTENCY.md lists it. Assumes nothing.
-use Rattle.std.specs.Prelude.{Bool, true, ◌&&◌, ◌||◌, ℕ, ◌+◌, leb, ltb, eqb, length}
+use Rattle.std.specs.Prelude.{Bool, true, ◌&&◌, ◌||◌, ℕ, ◌+◌, leb, ltb, eqb, length, None, Some}
 use Rattle.conduct.specs.Lists.{all, distinct}
 use Rattle.conduct.specs.Session.{Session, allowed_interval, allowed_resends, is_up, held}
 use Rattle.conduct.specs.Pushes.{terms_of}
-use Rattle.conduct.specs.declared.Awaited.TheVariants as awaited
 use Rattle.conduct.specs.declared.Terms.{Terms}
 use Rattle.conduct.specs.declared.State.{State}
 use Rattle.conduct.specs.declared.State.TheVariants.{Waiting, Connecting, Opening, Confirming, Up, Stopped}
@@ -17,8 +16,8 @@ sound_state interval (Waiting left) = leb 1 left && leb left 300
 sound_state interval Connecting = true
 sound_state interval (Opening age) = ltb age 20
 sound_state interval (Confirming number age) = ltb age 20
-sound_state interval (Up (awaited.Ok number) age) = ltb age 20
-sound_state interval (Up awaited.Nothing age) = ltb age interval
+sound_state interval (Up (Some number) age) = ltb age 20
+sound_state interval (Up None age) = ltb age interval
 sound_state interval Stopped = true
 
 abbrev pub most_sendings : Terms → Pushed → ℕ

@@ -2,7 +2,7 @@
 -- comes first is nothing to what is left and, where they name different ones, to what is said; where they name one, it is said which decides.
 -- (proofs/Swapped, Judged, Twice)
 -- Assumes nothing.
-use Rattle.std.specs.Prelude.{◌≡◌, true, false, cond, List, [], ◌∷◌, ◌++◌, map, ℕ, ◌+◌, leb, eqb}
+use Rattle.std.specs.Prelude.{◌≡◌, true, false, cond, List, [], ◌∷◌, ◌++◌, map, ℕ, ◌+◌, leb, eqb, None, Some}
 use Rattle.message.specs.declared.Advice.TheVariants.{UnreadableMessage}
 use Rattle.message.specs.declared.Message.{Message}
 use Rattle.conduct.specs.Lists.{flat, some, among}
@@ -12,7 +12,6 @@ use Rattle.conduct.specs.Step.{Answered, step}
 use Rattle.conduct.specs.History.{history, session_after, Bearing, says_unreadable, message_bearing, is_closing}
 use Rattle.conduct.specs.History.Bearing.{ticked, acknowledged, unreadable_message, advised}
 use Rattle.conduct.specs.Followed.{most_resendings, due_for}
-use Rattle.conduct.specs.declared.Awaited.TheVariants as awaited
 use Rattle.conduct.specs.declared.State.TheVariants.{Up}
 use Rattle.conduct.specs.declared.Event.{Event}
 use Rattle.conduct.specs.declared.Push.{Push}
@@ -30,8 +29,8 @@ pub record Names (c : Call) (n : ℕ) : Type 0 where
 abbrev pub UnreadableByItsType : Type 0
 UnreadableByItsType =
     (m : Message)
-    → (says_unreadable m ≡ true → (m.advisory_type.there ≡ true) × (m.advisory_type.advice ≡ UnreadableMessage))
-    × (m.advisory_type.there ≡ true → m.advisory_type.advice ≡ UnreadableMessage → says_unreadable m ≡ true)
+    → (says_unreadable m ≡ true → (m.advisory_type.there ≡ true) × (m.advisory_type.meaning ≡ UnreadableMessage))
+    × (m.advisory_type.there ≡ true → m.advisory_type.meaning ≡ UnreadableMessage → says_unreadable m ≡ true)
 
 -- two sessions answer every later list of calls alike, with the same refusals, events and states
 abbrev pub AnswerAlike : Session → Session → Type 0
@@ -121,14 +120,14 @@ says_of_session_ok unreadable_message = record { code = 17; number = 0; detail =
 says_of_session_ok advised = record { code = 17; number = 0; detail = 0 } ∷ []
 
 abbrev pub heard_in : Session → ℕ → Session
-heard_in s age = record { site = s.site; state = Up awaited.Nothing age; pushes = s.pushes; last = s.last }
+heard_in s age = record { site = s.site; state = Up None age; pushes = s.pushes; last = s.last }
 
 abbrev pub SessionOkNamed : Type 0
 SessionOkNamed =
-    (s : Session) (n age : ℕ) (a : Call) → sound s ≡ true → s.state ≡ Up (awaited.Ok n) age → (x : Names a n)
+    (s : Session) (n age : ℕ) (a : Call) → sound s ≡ true → s.state ≡ Up (Some n) age → (x : Names a n)
     → step s a ≡ record { refusal = 0; next = heard_in s age; events = says_of_session_ok x.bearing }
 
 abbrev pub SessionOkNamedTwice : Type 0
 SessionOkNamedTwice =
-    (s : Session) (n age : ℕ) (a b : Call) → sound s ≡ true → s.state ≡ Up (awaited.Ok n) age → Names a n → Names b n
+    (s : Session) (n age : ℕ) (a b : Call) → sound s ≡ true → s.state ≡ Up (Some n) age → Names a n → Names b n
     → step (step s a).next b ≡ unmatched_in (step s a).next

@@ -1,15 +1,13 @@
 -- Promise: the session's timers over any calls: how long it waits, opens and confirms, and when it sends a SessionOk. (proofs/WaitingTime, OpeningTime, ConfirmingTime,
 -- Unheard, Answers, Sent, Intervals, Sites, Entered)
 -- Assumes nothing.
-use Rattle.std.specs.Prelude.{◌≡◌, Bool, true, false, not, ◌&&◌, ◌||◌, List, [], ◌∷◌, ◌++◌, map, ◌⊎◌, ℕ, suc, ◌<◌, eqb}
+use Rattle.std.specs.Prelude.{◌≡◌, Bool, true, false, not, ◌&&◌, ◌||◌, List, [], ◌∷◌, ◌++◌, map, ◌⊎◌, ℕ, suc, ◌<◌, eqb, Option, None, Some}
 use Rattle.conduct.specs.Lists.{some, all}
 use Rattle.conduct.specs.Session.{Session, state_number, is_up}
 use Rattle.conduct.specs.Sound.{sound}
 use Rattle.conduct.specs.Step.{step, Answered}
 use Rattle.conduct.specs.History.{Entry, entry, history, session_after, ticks, bearing, advice_bearing, codes_of, of_push}
 use Rattle.conduct.specs.History.Bearing.{ticked, acknowledged}
-use Rattle.conduct.specs.declared.Awaited.{Awaited}
-use Rattle.conduct.specs.declared.Awaited.TheVariants as awaited
 use Rattle.conduct.specs.declared.State.{State}
 use Rattle.conduct.specs.declared.State.TheVariants.{Waiting, Connecting, Opening, Confirming, Up}
 use Rattle.conduct.specs.declared.Event.{Event}
@@ -73,20 +71,20 @@ pub record Unheard (s : Session) (cs : List Call) : Type 0 where
 
 abbrev pub HeartbeatUnheard : Type 0
 HeartbeatUnheard =
-    (s : Session) (cs : List Call) (n : ℕ) → sound s ≡ true → s.state ≡ Up (awaited.Ok n) 0 → stays 5 s cs → unanswered n (history s cs)
+    (s : Session) (cs : List Call) (n : ℕ) → sound s ≡ true → s.state ≡ Up (Some n) 0 → stays 5 s cs → unanswered n (history s cs)
     → Unheard s cs
 
 -- An accepted message with the number of the open SessionOk, an Ok or an Advisory. In Confirming the one brings the session up and the other ends it; in Up either
 -- closes the SessionOk, and the one in silence. The ticks since it was sent go on.
 pub record Answers (s : Session) (c : Call) (n : ℕ) : Type 0 where
   pub confirms : (age : ℕ) → s.state ≡ Confirming n age → bearing n (entry s c) ≡ acknowledged ∷ []
-      → (codes_of (step s c).events ≡ 8 ∷ []) × ((step s c).next.state ≡ Up awaited.Nothing age)
+      → (codes_of (step s c).events ≡ 8 ∷ []) × ((step s c).next.state ≡ Up None age)
   pub ends : (age : ℕ) (b : Bool) → s.state ≡ Confirming n age → bearing n (entry s c) ≡ advice_bearing b ∷ []
       → (codes_of (step s c).events ≡ 7 ∷ []) × ((step s c).next.state ≡ Waiting 300)
-  pub closes : (age : ℕ) → s.state ≡ Up (awaited.Ok n) age → bearing n (entry s c) ≡ acknowledged ∷ []
-      → (codes_of (step s c).events ≡ []) × ((step s c).next.state ≡ Up awaited.Nothing age)
-  pub closes_too : (age : ℕ) (b : Bool) → s.state ≡ Up (awaited.Ok n) age → bearing n (entry s c) ≡ advice_bearing b ∷ []
-      → (codes_of (step s c).events ≡ 17 ∷ []) × ((step s c).next.state ≡ Up awaited.Nothing age)
+  pub closes : (age : ℕ) → s.state ≡ Up (Some n) age → bearing n (entry s c) ≡ acknowledged ∷ []
+      → (codes_of (step s c).events ≡ []) × ((step s c).next.state ≡ Up None age)
+  pub closes_too : (age : ℕ) (b : Bool) → s.state ≡ Up (Some n) age → bearing n (entry s c) ≡ advice_bearing b ∷ []
+      → (codes_of (step s c).events ≡ 17 ∷ []) × ((step s c).next.state ≡ Up None age)
 
 abbrev pub AnswerIsHeard : Type 0
 AnswerIsHeard = (s : Session) (c : Call) (n : ℕ) → sound s ≡ true → Answers s c n
@@ -94,7 +92,7 @@ AnswerIsHeard = (s : Session) (c : Call) (n : ℕ) → sound s ≡ true → Answ
 -- once it is answered, no tick ends the session until the next is sent: it says nothing but of pushes, or sends that
 abbrev pub HeardStaysUp : Type 0
 HeardStaysUp =
-    (s : Session) (age : ℕ) → s.state ≡ Up awaited.Nothing age
+    (s : Session) (age : ℕ) → s.state ≡ Up None age
     → (all (λ (e : Event). of_push e || eqb e.code 3) (step s calls.Tick).events ≡ true) × (is_up (step s calls.Tick).next.state ≡ true)
 
 -- ---- a SessionOk every interval
@@ -106,7 +104,7 @@ is_confirming_or_up state = eqb (state_number state) 4 || eqb (state_number stat
 abbrev pub SentIsOpen : Type 0
 SentIsOpen =
     (s : Session) (c : Call) (a b : List Event) (e : Event) → (step s c).events ≡ a ++ e ∷ b → e.code ≡ 3
-    → ((step s c).next.state ≡ Confirming e.number 0) ⊎ ((step s c).next.state ≡ Up (awaited.Ok e.number) 0)
+    → ((step s c).next.state ≡ Confirming e.number 0) ⊎ ((step s c).next.state ≡ Up (Some e.number) 0)
 
 -- The SessionOk n was just sent; since then the session is confirming or up and sent no other. Then fewer ticks than the interval were accepted, and a
 -- tick says 3 exactly if it is the last of it.
@@ -117,7 +115,7 @@ pub record Due (s : Session) (cs : List Call) : Type 0 where
 
 abbrev pub EveryInterval : Type 0
 EveryInterval =
-    (s : Session) (cs : List Call) (n : ℕ) → sound s ≡ true → (s.state ≡ Confirming n 0) ⊎ (s.state ≡ Up (awaited.Ok n) 0)
+    (s : Session) (cs : List Call) (n : ℕ) → sound s ≡ true → (s.state ≡ Confirming n 0) ⊎ (s.state ≡ Up (Some n) 0)
     → all (λ (x : Entry). is_confirming_or_up x.state && not (says_session_ok x.events)) (history s cs) ≡ true
     → Due s cs
 
@@ -138,8 +136,8 @@ pub record Enters (s : Session) (c : Call) : Type 0 where
   pub opening : (age : ℕ) → (state_number s.state ≡ 3 → ⊥) → (step s c).next.state ≡ Opening age → age ≡ 0
   pub confirming : (n age : ℕ) → (state_number s.state ≡ 4 → ⊥) → (step s c).next.state ≡ Confirming n age
       → (age ≡ 0) × (says_session_ok (step s c).events ≡ true)
-  pub up : (waiting : Awaited) (age : ℕ) → (state_number s.state ≡ 5 → ⊥) → (step s c).next.state ≡ Up waiting age
-      → (waiting ≡ awaited.Nothing) × ((n : ℕ) × (s.state ≡ Confirming n age))
+  pub up : (waiting : Option ℕ) (age : ℕ) → (state_number s.state ≡ 5 → ⊥) → (step s c).next.state ≡ Up waiting age
+      → (waiting ≡ None) × ((n : ℕ) × (s.state ≡ Confirming n age))
   pub waiting : (left : ℕ) → (state_number s.state ≡ 1 → ⊥) → (step s c).next.state ≡ Waiting left → left ≡ 300
 
 abbrev pub EnteredAfresh : Type 0

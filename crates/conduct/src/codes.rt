@@ -1,4 +1,4 @@
-// The codes of events, by the names that specs/Codes.antt gives them.
+// The codes of events, by the names that specs/Codes.antt gives them. Numbers, and no enum: `told_into` lends any list of events, and an enum would ask more of it.
 pub const CONNECT: u32 = 1;
 
 pub const SEND_SESSION_OPEN_REQUEST: u32 = 2;

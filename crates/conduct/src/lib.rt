@@ -9,31 +9,24 @@ ghost use Rattle.conduct.specs.Session.{state_number};
 
 use message::Message;
 
-// The SessionOk that is open in Up, by its number.
-#[derive(Clone, Copy)]
-pub enum Awaited {
-    Nothing,
-    Ok(u32),
-}
-
 // A state with its timer. Waiting has the ticks that are left; the others have the ticks since they were entered or, where a SessionOk was sent,
-// since the last one was. Confirming has the number of its SessionOk in front.
-#[derive(Clone, Copy)]
+// since the last one was. Confirming has the number of its SessionOk in front, Up that of an open one, if any.
+#[derive(Clone, Copy, PartialEq, Eq)]
 pub enum State {
     Waiting(u32),
     Connecting,
     Opening(u32),
     Confirming(u32, u32),
-    Up(Awaited, u32),
+    Up(Option<u32>, u32),
     Stopped,
 }
 
-impl State {
-    // The state's number, in the paper's order.
-    pub fn number(self) -> u32
-        ensures { result ≡ state_number self }
-    {
-        match self {
+// The state's number, in the paper's order.
+impl From<State> for u32 {
+    ghost from_gives = { λ state number. number ≡ state_number state };
+
+    fn from(state: State) -> u32 {
+        match state {
             State::Waiting(_) => 1,
             State::Connecting => 2,
             State::Opening(_) => 3,
@@ -45,14 +38,14 @@ impl State {
 }
 
 // What the host pushes.
-#[derive(Clone, Copy)]
+#[derive(Clone, Copy, PartialEq, Eq)]
 pub enum Pushed {
     Response,
     Advisory,
 }
 
 // An open push: its number, the host's handle, how often it was sent, and the ticks since it was sent last.
-#[derive(Clone, Copy)]
+#[derive(Clone, Copy, PartialEq, Eq)]
 pub struct Push {
     pub what: Pushed,
     pub number: u32,
@@ -62,14 +55,14 @@ pub struct Push {
 }
 
 // How a SessionOpenResponse with the status RedundantSession counts: like one with an unknown status or, in the old conduct, with Ok.
-#[derive(Clone, Copy)]
+#[derive(Clone, Copy, PartialEq, Eq)]
 pub enum Conduct {
     New,
     Old,
 }
 
 // What a session is made with.
-#[derive(Clone, Copy)]
+#[derive(Clone, Copy, PartialEq, Eq)]
 pub struct Site {
     // The ticks from one SessionOk to the next.
     pub interval: u32,
@@ -79,20 +72,20 @@ pub struct Site {
 }
 
 // What an open push is held to: the ticks that each sending has for an answer, and how often a Response is sent again at most.
-#[derive(Clone, Copy)]
+#[derive(Clone, Copy, PartialEq, Eq)]
 pub struct Terms {
     pub ticks: u32,
     pub resends: u32,
 }
 
-#[derive(Clone, Copy)]
+#[derive(Clone, Copy, PartialEq, Eq)]
 pub struct Event {
     pub code: u32,
     pub number: u32,
     pub detail: u32,
 }
 
-#[derive(Clone, Copy)]
+#[derive(Clone, Copy, PartialEq, Eq)]
 pub enum Call {
     Tick,
     Connected,
@@ -106,7 +99,7 @@ pub enum Call {
 }
 
 // What is done with a message, by the state and its kind.
-#[derive(Clone, Copy)]
+#[derive(Clone, Copy, PartialEq, Eq)]
 pub enum Action {
     OutOfPlace,
     Answer,
@@ -116,7 +109,7 @@ pub enum Action {
 }
 
 // What a call means for every open push.
-#[derive(Clone, Copy)]
+#[derive(Clone, Copy, PartialEq, Eq)]
 pub enum Sweep {
     Still,
     Older,
@@ -127,7 +120,7 @@ pub enum Sweep {
 }
 
 // What becomes of an open push: it stays, is sent again and stays, or is closed.
-#[derive(Clone, Copy)]
+#[derive(Clone, Copy, PartialEq, Eq)]
 pub enum Fate {
     Keep(Push),
     Again(Push, Event),
@@ -135,7 +128,7 @@ pub enum Fate {
 }
 
 // What the session sends before it goes: nothing, 7, 19 and 7, or 18, 19 and 7.
-#[derive(Clone, Copy)]
+#[derive(Clone, Copy, PartialEq, Eq)]
 pub enum Parting {
     Nothing,
     Disconnect,
@@ -144,7 +137,7 @@ pub enum Parting {
 }
 
 // What a call says beside that: nothing, an event of a code and a detail, or the sending of a push that it opens.
-#[derive(Clone, Copy)]
+#[derive(Clone, Copy, PartialEq, Eq)]
 pub enum Remark {
     Nothing,
     Note(u32, u32),
@@ -152,7 +145,7 @@ pub enum Remark {
 }
 
 // What an accepted call does, before its events have their numbers.
-#[derive(Clone, Copy)]
+#[derive(Clone, Copy, PartialEq, Eq)]
 pub struct Move {
     pub to: State,
     pub parting: Parting,

@@ -1,52 +1,37 @@
 -- The attributes of a start tag: the loops over them. Assumes nothing.
 use Prim.Native.Nat.{ℕ, suc, ◌+◌, ◌<◌, ◌≤◌}
 use mathlib.Core.Path.{◌≡◌, refl, sym, ◌∙◌, ap}
-use mathlib.Core.Bool.{Bool, true, false, cond, ◌||◌}
-use mathlib.Core.List.{List, [], ◌∷◌}
+use mathlib.Core.Bool.{true, false, cond}
+use mathlib.Core.List.{List, [], ◌∷◌, ◌++◌}
+use Rattle.std.specs.Prelude.{Result}
+use Rattle.message.specs.declared.Refusal.{Refusal}
 use native.Mathlib.Omega.{arith}
-use lib.ListN.{length, set}
+use lib.ListN.{length}
 use Rattle.laws.specs.Bytes.{same_bytes}
 use Rattle.message.specs.Class.{is_start, is_space}
-use Rattle.message.specs.Reading.{Reading, ◌>>=◌, is, has, blanks}
+use Rattle.message.specs.Reading.{Reading, ◌>>=◌, has, blanks}
 use Rattle.message.specs.Reading.Reading.{whole, refused}
 use Rattle.message.specs.Names.{Named, part_at, name_at}
-use Rattle.message.proofs.Laws.{went, stopped, cond_true, cond_false, has_out, has_or, one_no, ends_after, ends_out}
+use Rattle.message.proofs.Laws.{went, stopped, cond_true, cond_false, has_out, one_no, ends_after, ends_out}
 use Rattle.message.proofs.Loops.{Fuelled, Left, left_first, left_on, left_done}
 use Rattle.message.proofs.Trees.{name_on, quoted_on, fresh_on}
 use Rattle.message.specs.Limits.{Limits}
 use Rattle.message.specs.Elements.{part, Quoted, ends_tag, quoted_at, fresh_at, attributes_at}
-use Rattle.elements.specs.Held.{names, span_said}
+use Rattle.elements.specs.Held.{names_of, span_said}
 use Rattle.message.specs.Messages.{attribute_called}
 use Rattle.elements.specs.declared.attributes.Span.{Span}
-use Rattle.elements.proofs.HeldNames.{names_more, length_names, room}
+use Rattle.elements.proofs.HeldNames.{names_more, length_names}
 
--- what a reading was, from what the code's enum says and the case that it is
-pub span_is : {a : Reading Quoted} {r r' : Span} → span_said r ≡ a → r ≡ r' → a ≡ span_said r'
-span_is said r-is = sym said ∙ ap span_said r-is
-
--- ---- the `/` or `>` behind the attributes
-
-module _ (s : List ℕ) (at : ℕ) where
-  pub ends_there : has (is 62) s at ≡ true → true ≡ has ends_tag s at
-  ends_there h = go (has (is 47) s at) ∙ rw (sym h) (sym (has_or (is 47) (is 62) s at))
-    where
-      go : (t : Bool) → true ≡ (t || true)
-      go true = refl
-      go false = refl
-
-  pub ends_else : has (is 62) s at ≡ false → has (is 47) s at ≡ has ends_tag s at
-  ends_else h = go (has (is 47) s at) ∙ rw (sym h) (sym (has_or (is 47) (is 62) s at))
-    where
-      go : (t : Bool) → t ≡ (t || false)
-      go true = refl
-      go false = refl
+-- what a reading was, from what the code says of it and the case that this is
+pub span_is : {a : Reading Quoted} {r r' : Result Span Refusal} → span_said r ≡ a → r ≡ r' → a ≡ span_said r'
+span_is says r-is = sym says ∙ ap span_said r-is
 
 module _ (class : ℕ → ℕ) (s : List ℕ) where
-  -- a name that is taken beside names held in two arrays is in the message, and was not one too many
-  pub fresh_held_lem : (l : Limits) (starts stops : List ℕ) (n at : ℕ) {p e : ℕ} → fresh_at class s l (names s starts stops n) at p ≡ whole e → (p < e) × (e ≤ length s) × (n < l.attributes)
-  fresh_held_lem l starts stops n at q =
-      let f = fresh_on class s l (names s starts stops n) at q in
-      (f.0, f.1, rw (length_names s starts stops n) at f.2)
+  -- a name that is taken beside names that are held is in the message, and was not one too many
+  pub fresh_held : (l : Limits) (held : List Span) (at : ℕ) {p e : ℕ} → fresh_at class s l (names_of s held) at p ≡ whole e → (p < e) × (e ≤ length s) × (length held < l.attributes)
+  fresh_held l held at q =
+      let f = fresh_on class s l (names_of s held) at q in
+      (f.0, f.1, rw (length_names s held) at f.2)
 
   -- ---- the loop over the attributes: at the names of those before, and at the place behind them
 
@@ -104,8 +89,9 @@ module _ (class : ℕ → ℕ) (s : List ℕ) where
             went _ q ∙ went _ named ∙ cond_false _ more ∙ at_p next) left
 
   -- the name that was read is held as one more
-  pub left_held : (l : Limits) (starts stops : List ℕ) (n p e k : ℕ) {answer : Reading ℕ} → length starts ≡ l.attributes → length stops ≡ l.attributes → n < l.attributes → Left (attributes l) answer (part s p e ∷ names s starts stops n, k) → Left (attributes l) answer (names s (set starts n p) (set stops n e) (n + 1), k)
-  left_held l starts stops n p e k h h' room left = rw (names_more s starts stops n p e (omega arith) (omega arith)) left
+  pub left_held : (l : Limits) (held : List Span) (name : Span) (k : ℕ) {answer : Reading ℕ}
+      → Left (attributes l) answer (part s name.from name.to ∷ names_of s held, k) → Left (attributes l) answer (names_of s (held ++ name ∷ []), k)
+  left_held l held name k left = rw (names_more s held name) left
 
   -- a tag that ends behind its name has none
   pub attributes_none : (l : Limits) (at : ℕ) {p : ℕ} → p ≡ blanks class s at → has ends_tag s p ≡ true → whole p ≡ attributes_at class s l (length s) [] at

@@ -8,6 +8,8 @@ use native.Mathlib.Omega.{arith}
 use lib.ListN.{length}
 use lib.Dec.{eqb}
 use borrow.Author.Tests.{ne_eqb, eqb-true}
+use Rattle.std.specs.Prelude.{Result}
+use Rattle.message.specs.declared.Refusal.{Refusal}
 use Rattle.message.specs.Reading.{Reading, ◌>>=◌, is, has}
 use Rattle.message.specs.Reading.Reading.{whole, refused}
 use Rattle.message.proofs.Laws.{went, stopped, cond_true, cond_false}
@@ -16,10 +18,9 @@ use Rattle.message.specs.Limits.{link_limits}
 use Rattle.message.specs.Elements.{Elements, Element, Start, Content, closed, nested, filled, free_at, end_tag_at, start_at, content_at, rest_at, too_deep_at, element_at}
 use Rattle.message.specs.Elements.Elements.{none, more}
 use Rattle.elements.specs.Seen.{count, nothing_inside, mark_of, typed_in, inside_of, seen_of, seen, noted}
-use Rattle.elements.specs.Held.{name_of, started_said, type_mark, empty_seen, closing}
+use Rattle.elements.specs.Held.{named, started, started_said, type_mark, empty_seen, closing}
 use Rattle.message.proofs.Trees.{whole_same, free_out, element_on}
 use Rattle.message.proofs.Facts.{then_whole, then_same, refused_then}
-use Rattle.elements.specs.declared.content.Started.{Started}
 use Rattle.elements.specs.declared.content.Start as starts
 use Rattle.elements.specs.declared.Inside.{Inside}
 use Rattle.elements.specs.declared.Seen.{Seen}
@@ -31,6 +32,9 @@ then_then (whole x) f g = refl
 then_then (refused n p) f g = refl
 
 -- ---- what is held on to
+
+pub inside_same : {i j : Inside} → i.children ≡ j.children → i.first ≡ j.first → i.typed ≡ j.typed → i.nested ≡ j.nested → i ≡ j
+inside_same a b c d = rw (a, b, c, d)
 
 module _ (s : List ℕ) where
   -- elements behind those that are inside, one after the other as the code comes to them
@@ -51,9 +55,6 @@ module _ (s : List ℕ) where
       go : (t : Bool) → eqb n 0 ≡ t → cond (eqb (cond t mark n) 0) others (cond t mark n) ≡ cond t (cond (eqb mark 0) others mark) n
       go true h = refl
       go false h = rw h
-
-  inside_same : {i j : Inside} → i.children ≡ j.children → i.first ≡ j.first → i.typed ≡ j.typed → i.nested ≡ j.nested → i ≡ j
-  inside_same a b c d = rw (a, b, c, d)
 
   -- behind a first element, only how many they are and the first AdvisoryType may change
   add_behind : (i : Inside) (es : Elements) → (i.children ≡ 0 → ⊥)
@@ -78,13 +79,12 @@ module _ (s : List ℕ) where
 -- ---- the loop
 
 module _ (class : ℕ → ℕ) (s : List ℕ) (child : ℕ → Reading Element) (start : starts.Start) where
-  -- the start tag as the definitions have it
-  abbrev pub opened : Start
-  opened = record { begin = start.begin; name = name_of start; from = start.from; empty = start.empty }
+  abbrev opened : Start
+  opened = started start
 
   -- an element whose content has been read, behind elements that were held on to
   abbrev held : Inside → Content → Seen
-  held i c = record { begin = start.begin; from = start.from; to = c.to; end = c.end; mark = type_mark s start; inside = add s i c.inside }
+  held i c = record { begin = start.begin; from = start.from; to = c.to; end = c.end; mark = type_mark s start.begin start.name; inside = add s i c.inside }
 
   -- the loop stands at a place, with what it holds on to
   pub record Standing : Type 0 where
@@ -108,11 +108,11 @@ module _ (class : ℕ → ℕ) (s : List ℕ) (child : ℕ → Reading Element) 
       whole_content c = whole (held p.inside c)
 
       go : (stop : ℕ) (t : Bool)
-          → (cond t (end_tag_at class s link_limits start.begin (name_of start) (stop + 2) >>= (λ e. whole (closed stop e)))
+          → (cond t (end_tag_at class s link_limits start.begin (named start.name) (stop + 2) >>= (λ e. whole (closed stop e)))
           (child stop >>= (λ e. content_at class s link_limits fuel child opened e.tag.end >>= (λ c. whole (nested e c))))
           >>= whole_content)
           ≡ cond t (closing class s start stop p.inside) (child stop >>= (λ e. reads_content fuel (record { at = e.tag.end; inside = noted p.inside (seen_of s e) })))
-      go stop true = then_then (end_tag_at class s link_limits start.begin (name_of start) (stop + 2)) _ _
+      go stop true = then_then (end_tag_at class s link_limits start.begin (named start.name) (stop + 2)) _ _
       go stop false = then_then (child stop) _ _ ∙ then_same _ _ (child stop) (λ e q. then_then (content_at class s link_limits fuel child opened e.tag.end) _ _)
 
   pub content_ended : (p : Standing) → length s ≤ p.at → reads_content 0 p ≡ content_step p (reads_content 0)
@@ -135,7 +135,7 @@ module _ (class : ℕ → ℕ) (s : List ℕ) (child : ℕ → Reading Element) 
   pub content_asked : start.empty ≡ false → reads_content (length s) (record { at = start.from; inside = nothing_inside }) ≡ seen s (rest_at class s link_limits child opened)
   unfolding rest_at
   content_asked h =
-      then_same _ _ (content_at class s link_limits (length s) child opened start.from) (λ c q. ap (λ (i : Inside). whole (record { begin = start.begin; from = start.from; to = c.to; end = c.end; mark = type_mark s start; inside = i })) (add_all s c.inside))
+      then_same _ _ (content_at class s link_limits (length s) child opened start.from) (λ c q. ap (λ (i : Inside). whole (record { begin = start.begin; from = start.from; to = c.to; end = c.end; mark = type_mark s start.begin start.name; inside = i })) (add_all s c.inside))
       ∙ sym (then_then (content_at class s link_limits (length s) child opened start.from) (λ c. whole (filled opened c)) (λ e. whole (seen_of s e)))
       ∙ ap (seen s) (cond_false _ h)
 
@@ -207,15 +207,11 @@ module _ (class : ℕ → ℕ) (s : List ℕ) (depth at : ℕ) where
       go (suc d) h = rw sub-one
 
   -- what the loop over the content of an element is asked for is the element
-  pub element_asked : (start : starts.Start) → (depth ≡ 0 → ⊥) → start_at class s link_limits at ≡ whole (opened class s (element_at class s link_limits (depth - 1)) start) → start.empty ≡ false
+  pub element_asked : (start : starts.Start) → (depth ≡ 0 → ⊥) → start_at class s link_limits at ≡ whole (started start) → start.empty ≡ false
       → reads_content class s (element_at class s link_limits (depth - 1)) start (length s) (record { at = start.from; inside = nothing_inside }) ≡ seen s (element_at class s link_limits depth at)
   element_asked start some starts-so not-empty =
       content_asked class s (element_at class s link_limits (depth - 1)) start not-empty ∙ ap (seen s) (went _ starts-so ∙ element_some some)
 
--- what a start tag was, from what the code's enum says and the case that it is
-pub started_is : {a : Reading Start} {r r' : Started} → started_said r ≡ a → r ≡ r' → a ≡ started_said r'
-started_is said r-is = sym said ∙ ap started_said r-is
-
--- two elements that are held on to alike but for their mark, where the marks are the same
-pub same_mark : {b f u e m m' : ℕ} {i : Inside} → m ≡ m' → ◌≡◌ {A = Reading Seen} (whole (record { begin = b; from = f; to = u; end = e; mark = m; inside = i })) (whole (record { begin = b; from = f; to = u; end = e; mark = m'; inside = i }))
-same_mark h = rw h
+-- what a start tag was, from what the code says of it and the case that this is
+pub started_is : {a : Reading Start} {r r' : Result starts.Start Refusal} → started_said r ≡ a → r ≡ r' → a ≡ started_said r'
+started_is says r-is = sym says ∙ ap started_said r-is

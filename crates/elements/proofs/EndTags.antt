@@ -10,11 +10,12 @@ use lib.ListN.{length}
 use lib.Seq.{length-slice}
 use lib.Dec.{ltb}
 use borrow.Author.Tests.{ltb-true, ltb-false, lt-leb, eq-eqb, ne_eqb}
+use Rattle.std.proofs.lemmas.Bool.{and_parts, cond_both}
 use Rattle.message.specs.Class.{is_start, is_name, is_space}
 use Rattle.message.specs.Reading.{◌>>=◌, is_whole, is, has, one, ends, word_at}
 use Rattle.message.specs.Reading.Reading.{whole}
-use Rattle.message.specs.Names.{short_at, part_at, name_at}
-use Rattle.message.proofs.Laws.{went, cond_true, cond_false, cond_cases, both_first, both_second, has_lt, one_yes, ends_le, ends_stop}
+use Rattle.message.specs.Names.{Named, short_at, part_at, name_at}
+use Rattle.message.proofs.Laws.{went, cond_true, cond_false, has_lt, one_yes, ends_le, ends_stop}
 use Rattle.message.proofs.Progress.{Every, every_then}
 use Rattle.message.specs.Limits.{link_limits}
 use Rattle.message.specs.Elements.{part, end_part_at, end_name_at, end_tag_at}
@@ -38,7 +39,7 @@ module _ (class : ℕ → ℕ) (s : List ℕ) where
   unfolding part_at short_at
   part_every b =
       one_cases (Every (PartStands class s b)) (is_start class) s b _ (λ t.
-      cond_cases (Every (PartStands class s b)) (ltb 64 (ends (is_name class) s b - b)) (λ u. tt) (λ u.
+      cond_both (ltb 64 (ends (is_name class) s b - b)) _ _ (Every (PartStands class s b)) (λ u. tt) (λ u.
       record {
         some = start_in_name class s b t;
         within = ends_le (is_name class) s b (omega (arith, has_lt (is_start class) s b t));
@@ -46,12 +47,12 @@ module _ (class : ℕ → ℕ) (s : List ℕ) where
         short = ltb-false 64 (ends (is_name class) s b - b) u;
       })) tt
 
-  name_every : (b : ℕ) → Every (λ name. NameStands class s b name.local name.end) (name_at class 64 s b)
+  name_every : (b : ℕ) → Every (NameStands class s b) (name_at class 64 s b)
   unfolding name_at
   name_every b =
-      every_then (PartStands class s b) (λ name. NameStands class s b name.local name.end) _ (part_at class 64 s b) (part_every b) (λ first p.
-      cond_cases (Every (λ name. NameStands class s b name.local name.end)) (has (is 58) s first) (λ t.
-      every_then (PartStands class s (first + 1)) (λ name. NameStands class s b name.local name.end) _ (part_at class 64 s (first + 1)) (part_every (first + 1)) (λ last p'.
+      every_then (PartStands class s b) (NameStands class s b) _ (part_at class 64 s b) (part_every b) (λ first p.
+      cond_both (has (is 58) s first) _ _ (Every (NameStands class s b)) (λ t.
+      every_then (PartStands class s (first + 1)) (NameStands class s b) _ (part_at class 64 s (first + 1)) (part_every (first + 1)) (λ last p'.
       let m : first + 1 - 1 ≡ first = omega arith in
       record {
         within = p'.within;
@@ -70,17 +71,17 @@ module _ (class : ℕ → ℕ) (s : List ℕ) where
         joined = λ two. absurd (two refl);
       }))
 
-  pub name_stands : (b local e : ℕ) → name_at class 64 s b ≡ whole (record { local = local; end = e }) → NameStands class s b local e
-  name_stands b local e q = subst (Every (λ name. NameStands class s b name.local name.end)) q (name_every b)
+  pub name_stands : (b : ℕ) (name : Named) → name_at class 64 s b ≡ whole name → NameStands class s b name
+  name_stands b name q = subst (Every (NameStands class s b)) q (name_every b)
 
 -- ---- the `>` of a tag, which is neither a name byte nor white space
 
 module _ (class : ℕ → ℕ) (s : List ℕ) (at : ℕ) (end : tag_ends_at class s at ≡ true) where
   pub tag_closes : has (is 62) s at ≡ true
-  tag_closes = both_first (has (is 62) s at) (ltb (class 62) 3) end
+  tag_closes = (and_parts (has (is 62) s at) (ltb (class 62) 3) end).0
 
   tag_low : class 62 < 3
-  tag_low = ltb-true (class 62) 3 (both_second (has (is 62) s at) (ltb (class 62) 3) end)
+  tag_low = ltb-true (class 62) 3 (and_parts (has (is 62) s at) (ltb (class 62) 3) end).1
 
   tag_no_name : has (is_name class) s at ≡ false
   tag_no_name = has_known 62 s at tag_closes (is_name class) ∙ lt-leb 4 (class 62) (omega (arith, tag_low))
@@ -98,14 +99,7 @@ module _ (class : ℕ → ℕ) (s : List ℕ) where
       sym (part_by_word class (part s b e) s at r (omega arith) (part_passes s b e l class q) (omega (arith, ends_stop (is_name class) s (at + (e - b)) none)))
       ∙ r.full (omega (arith, size))
 
-  module _ (b local e : ℕ) (stands : NameStands class s b local e) where
-    pub stands_alone : local ≡ b → (b < e) × (e ≤ length s) × (e ≡ ends (is_name class) s b)
-    stands_alone q = (omega (arith, stands.last.0), stands.within, stands.last.1 ∙ ap (ends (is_name class) s) q)
-
-    pub stands_first : (local ≡ b → ⊥) → (b < local - 1) × (local - 1 ≤ length s) × (local - 1 ≡ ends (is_name class) s b)
-    stands_first two = ((stands.first two).0, omega (arith, stands.within, stands.last.0), (stands.first two).1)
-
-  module _ (b local e at : ℕ) (stands : NameStands class s b local e) (again : is_whole (word_at (part s b e) s at) ≡ true) where
+  module _ (b local e at : ℕ) (stands : NameStands class s b (record { local = local; end = e })) (again : is_whole (word_at (part s b e) s at) ≡ true) where
     pub again_within : at + (e - b) ≤ length s
     again_within =
         let size = length-slice b e s stands.within in

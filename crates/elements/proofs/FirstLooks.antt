@@ -6,13 +6,14 @@ use mathlib.Core.List.{List}
 use native.Mathlib.Omega.{arith}
 use lib.ListN.{length}
 use borrow.Author.Tests.{not-true}
+use Rattle.std.proofs.lemmas.Bool.{and_parts}
 use Rattle.message.specs.Class.{is_plain, is_space}
 use Rattle.message.specs.Reading.{Reading, is, has, ends}
 use Rattle.message.specs.Reading.Reading.{whole, refused}
 use Rattle.message.specs.Text.{text_at}
 use Rattle.message.specs.Limits.{link_limits}
 use Rattle.message.specs.Elements.{Start, ends_tag, free_at, start_end_at, with_name_at}
-use Rattle.message.proofs.Laws.{went, cond_true, cond_false, both_first, both_second, one_yes, ends_out, ends_stop}
+use Rattle.message.proofs.Laws.{went, cond_true, cond_false, one_yes, ends_out, ends_stop}
 use Rattle.message.proofs.Runs.{has_known, ends_fails}
 use Rattle.message.proofs.Loops.{left_first, left_done, text_step, texts}
 use Rattle.elements.specs.Held.{tag_at, tag_ends_at}
@@ -28,12 +29,12 @@ module _ (class : ℕ → ℕ) (s : List ℕ) (at stop : ℕ) (run : stop ≡ en
   free_plain tag =
       let bang = has (is 33) s (stop + 1) in
       let query = has (is 63) s (stop + 1) in
-      let less = both_first (has (is 60) s stop) (not bang && not query) tag in
-      let neither = both_second (has (is 60) s stop) (not bang && not query) tag in
+      let less = (and_parts (has (is 60) s stop) (not bang && not query) tag).0 in
+      let neither = (and_parts (has (is 60) s stop) (not bang && not query) tag).1 in
       let text = left_done (texts class s) (λ next. cond_true _ less) (left_first (texts class s) at run) in
       left_done (frees class s) (λ next.
-      cond_false _ (not-true query (both_second (not bang) (not query) neither))
-      ∙ cond_false _ (not-true bang (both_first (not bang) (not query) neither))
+      cond_false _ (not-true query (and_parts (not bang) (not query) neither).1)
+      ∙ cond_false _ (not-true bang (and_parts (not bang) (not query) neither).0)
       ∙ went _ (sym text)) (left_first (frees class s) at refl)
 
   none : length s ≤ at → stop ≡ at

@@ -1,14 +1,15 @@
 -- Bytes that are repeated: what the code finds of a part of an end tag's name. Assumes nothing.
 use Prim.Native.Nat.{ℕ, zero, suc, ◌+◌, ◌-◌, ◌<◌, ◌≤◌}
 use mathlib.Core.Path.{◌≡◌, refl, sym, ◌∙◌, ap, subst}
-use mathlib.Core.Bool.{Bool, true, false, ◌&&◌, true≢false}
+use mathlib.Core.Bool.{Bool, true, false, cond, ◌&&◌, true≢false}
 use mathlib.Core.List.{List, [], ◌∷◌, ◌++◌}
+use native.Mathlib.Numerals.{add-one}
 use native.Mathlib.Omega.{arith}
 use native.Mathlib.Decide.{dec_lt}
-use lib.ListN.{length, get_or}
-use lib.Seq.{length-slice}
-use lib.Dec.{eqb}
-use borrow.Author.Tests.{lt-ltb, le-ltb, eq-eqb, ne_eqb}
+use lib.ListN.{length, get_or, drop, drop_of_length-le}
+use lib.Seq.{length-slice, drop-cons}
+use lib.Dec.{eqb, ltb}
+use borrow.Author.Tests.{lt-ltb, le-ltb, eq-eqb, ne_eqb, eqb-true, eqb-false, ltb-true, ltb-false}
 use Rattle.laws.specs.Bytes.{same_at}
 use Rattle.laws.proofs.Same.{same_none, same_first}
 use Rattle.message.specs.Class.{is_name}
@@ -52,9 +53,9 @@ module _ (test : ℕ → Bool) (s : List ℕ) where
 
 module _ (x : ℕ) (w s : List ℕ) (at : ℕ) where
   module _ (there : has (is x) s at ≡ true) where
-    upto_more : same_up_to (x ∷ w) s at ≡ same_up_to w s (at + 1)
+    upto_on : same_up_to (x ∷ w) s at ≡ same_up_to w s (at + 1)
     unfolding same_up_to
-    upto_more = sym (cond_true _ there)
+    upto_on = sym (cond_true _ there)
 
     pub word_on : word_at (x ∷ w) s at ≡ word_at w s (at + 1)
     unfolding word_at
@@ -128,16 +129,13 @@ repeated_step : (x : ℕ) (w s : List ℕ) (at : ℕ) → Repeated w s (at + 1) 
 repeated_step x w s at r = go (has (is x) s at) refl
   where
     go : (t : Bool) → has (is x) s at ≡ t → Repeated (x ∷ w) s at (same_up_to (x ∷ w) s at)
-    go true e = subst (Repeated (x ∷ w) s at) (sym (upto_more x w s at e)) (repeated_more x w s at (same_up_to w s (at + 1)) e r)
+    go true e = subst (Repeated (x ∷ w) s at) (sym (upto_on x w s at e)) (repeated_more x w s at (same_up_to w s (at + 1)) e r)
     go false e = subst (Repeated (x ∷ w) s at) (sym (upto_here x w s at e)) (repeated_here x w s at e)
 
 repeated_upto : (w s : List ℕ) (at : ℕ) → Repeated w s at (same_up_to w s at)
 unfolding same_up_to
 repeated_upto [] s at = repeated_none s at
 repeated_upto (x ∷ w) s at = repeated_step x w s at (repeated_upto w s (at + 1))
-
-repeated_to : (w s : List ℕ) (at : ℕ) {i : ℕ} → i ≡ same_up_to w s at → Repeated w s at i
-repeated_to w s at q = subst (Repeated w s at) (sym q) (repeated_upto w s at)
 
 -- ---- a part of an end tag's name, which is the word w: what the code finds of it
 
@@ -167,32 +165,49 @@ module _ (s : List ℕ) (b e : ℕ) (l : e ≤ length s) where
   pub part_passes : (class : ℕ → ℕ) → e ≡ ends (is_name class) s b → Passes (is_name class) (part s b e)
   part_passes class q = run_passes (is_name class) s (e - b) b e (omega arith) l q
 
-module _ (class : ℕ → ℕ) (s : List ℕ) (b e at : ℕ) (some : b < e) (l : e ≤ length s) (q : e ≡ ends (is_name class) s b) {i : ℕ} (i-is : i ≡ same_up_to (part s b e) s at) where
-  found : Repeated (part s b e) s at i
-  found = repeated_to (part s b e) s at i-is
+pub upto_from : (w s : List ℕ) (at : ℕ) → at ≤ same_up_to w s at
+upto_from w s at = (repeated_upto w s at).from
 
-  pub again_from : at ≤ i
-  again_from = found.from
+module _ (class : ℕ → ℕ) (s : List ℕ) (b e at : ℕ) (some : b < e) (l : e ≤ length s) (q : e ≡ ends (is_name class) s b) where
+  -- what the code's tests tell of it, by the place up to which it is repeated and the end of the run of name bytes there
+  abbrev pub again : ℕ → ℕ → Reading ℕ
+  again i stop = cond (eqb i at) (refused 9 at) (cond (ltb 64 (stop - at)) (refused 14 at) (cond (ltb (i - at) (e - b)) (refused 9 i) (whole i)))
 
-  pub again_none : i ≡ at → refused 9 at ≡ end_part_at class s link_limits (part s b e) at
-  again_none h = part_other_first class (part s b e) s at found h (omega (arith, length-slice b e s l))
+  again_at : (i stop : ℕ) → i ≡ same_up_to (part s b e) s at → stop ≡ ends (is_name class) s i → end_part_at class s link_limits (part s b e) at ≡ again i stop
+  again_at i stop i-is stop-is = go (eqb i at) refl (ltb 64 (stop - at)) refl (ltb (i - at) (e - b)) refl
+    where
+      w : List ℕ
+      w = part s b e
 
-  module _ (any : i ≡ at → ⊥) {stop : ℕ} (stop_is : stop ≡ ends (is_name class) s i) where
-    further : at < i
-    further = elim (dec_lt at i) [ yes h ↦ h | no h ↦ absurd (any (omega (arith, found.from))) ]
+      found : Repeated w s at i
+      found = subst (Repeated w s at) (sym i-is) (repeated_upto w s at)
 
-    pub again_long : 64 < stop - at → refused 14 at ≡ end_part_at class s link_limits (part s b e) at
-    again_long h = part_too_long class (part s b e) s at found further (part_passes s b e l class q) (omega arith)
+      passes : Passes (is_name class) w
+      passes = part_passes s b e l class q
 
-    pub again_short : stop - at ≤ 64 → i - at < e - b → refused 9 i ≡ end_part_at class s link_limits (part s b e) at
-    again_short h k =
-        sym (found.short (omega (arith, length-slice b e s l, found.from)))
-        ∙ part_by_word class (part s b e) s at found further (part_passes s b e l class q) (omega arith)
+      size : length w ≡ e - b
+      size = length-slice b e s l
 
-    pub again_whole : stop - at ≤ 64 → e - b ≤ i - at → whole i ≡ end_part_at class s link_limits (part s b e) at
-    again_whole h k =
-        sym (found.full (omega (arith, length-slice b e s l, found.from)))
-        ∙ part_by_word class (part s b e) s at found further (part_passes s b e l class q) (omega arith)
+      go : (t : Bool) → eqb i at ≡ t → (u : Bool) → ltb 64 (stop - at) ≡ u → (v : Bool) → ltb (i - at) (e - b) ≡ v
+          → end_part_at class s link_limits w at ≡ cond t (refused 9 at) (cond u (refused 14 at) (cond v (refused 9 i) (whole i)))
+      go true t-is u u-is v v-is = sym (part_other_first class w s at found (eqb-true i at t-is) (omega (arith, size)))
+      go false t-is u u-is v v-is = past u u-is v v-is
+        where
+          further : at < i
+          further = elim (dec_lt at i) [ yes h ↦ h | no h ↦ absurd (eqb-false i at t-is (omega (arith, found.from))) ]
+
+          past : (u : Bool) → ltb 64 (stop - at) ≡ u → (v : Bool) → ltb (i - at) (e - b) ≡ v
+              → end_part_at class s link_limits w at ≡ cond u (refused 14 at) (cond v (refused 9 i) (whole i))
+          past true u-is v v-is = sym (part_too_long class w s at found further passes (omega (arith, ltb-true 64 (stop - at) u-is)))
+          past false u-is true v-is =
+              sym (part_by_word class w s at found further passes (omega (arith, ltb-false 64 (stop - at) u-is)))
+              ∙ found.short (omega (arith, size, ltb-true (i - at) (e - b) v-is))
+          past false u-is false v-is =
+              sym (part_by_word class w s at found further passes (omega (arith, ltb-false 64 (stop - at) u-is)))
+              ∙ found.full (omega (arith, size, ltb-false (i - at) (e - b) v-is, found.from))
+
+  pub again_is : end_part_at class s link_limits (part s b e) at ≡ again (same_up_to (part s b e) s at) (ends (is_name class) s (same_up_to (part s b e) s at))
+  again_is = again_at (same_up_to (part s b e) s at) (ends (is_name class) s (same_up_to (part s b e) s at)) refl refl
 
 -- ---- a word that is whole
 
@@ -266,15 +281,13 @@ module _ (s : List ℕ) (b e at : ℕ) (l : e ≤ length s) where
           ∙ ap (λ (t : Bool). eqb (byte_at s at) (byte_at s b) && t) (go n (b + 1) (at + 1) (omega arith) (omega arith))
           ∙ sym (ap (λ (w : List ℕ). is_whole (word_at w s at)) (part_some s b e (omega arith) l) ∙ word_step (byte_at s b) (part s (b + 1) e) s at (omega arith))
 
--- ---- the code's search for the place up to which the bytes from k to e are repeated
+-- ---- the code's search for the place up to which a word is repeated, from its k-th byte on
 
-module _ (s : List ℕ) (k e i : ℕ) where
-  pub upto_on : k < e → e ≤ length s → has (is (byte_at s k)) s i ≡ true → same_up_to (part s (k + 1) e) s (i + 1) ≡ same_up_to (part s k e) s i
-  upto_on h l there = sym (ap (λ (w : List ℕ). same_up_to w s i) (part_some s k e h l) ∙ upto_more (byte_at s k) (part s (k + 1) e) s i there)
-
-  pub upto_other : k < e → e ≤ length s → has (is (byte_at s k)) s i ≡ false → i ≡ same_up_to (part s k e) s i
-  upto_other h l other = sym (ap (λ (w : List ℕ). same_up_to w s i) (part_some s k e h l) ∙ upto_here (byte_at s k) (part s (k + 1) e) s i other)
-
-  pub upto_end : e ≤ k → i ≡ same_up_to (part s k e) s i
+module _ (w s : List ℕ) (at k : ℕ) where
+  pub upto_none : length w ≤ k → same_up_to (drop k w) s at ≡ at
   unfolding same_up_to
-  upto_end h = sym (ap (λ (w : List ℕ). same_up_to w s i) (part_none s k e h))
+  upto_none h = rw (drop_of_length-le w {i = k} h)
+
+  pub upto_more : k < length w → same_up_to (drop k w) s at ≡ cond (has (is (byte_at w k)) s at) (same_up_to (drop (k + 1) w) s (at + 1)) at
+  unfolding same_up_to
+  upto_more h = rw (add-one k, drop-cons w k 0 h)

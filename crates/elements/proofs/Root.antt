@@ -1,45 +1,33 @@
--- The root, by what its reading holds on to, and what stands around it. Assumes nothing.
+-- The root, by what is held on to of it, and what stands around it. Assumes nothing.
 use Prim.Native.Nat.{ℕ, suc}
-use mathlib.Core.Path.{◌≡◌, sym, ◌∙◌, ap}
+use mathlib.Core.Path.{◌≡◌, refl, ◌∙◌}
 use mathlib.Core.List.{List}
 use lib.ListN.{length}
 use Rattle.message.specs.Reading.{Reading, ◌>>=◌}
 use Rattle.message.specs.Reading.Reading.{whole, refused}
 use Rattle.message.specs.Markup.{around_at}
-use Rattle.message.proofs.Laws.{went, stopped}
 use Rattle.message.specs.Limits.{link_limits}
 use Rattle.message.specs.Elements.{Element, end_at, element_at, root_at}
+use Rattle.message.proofs.Facts.{then_same}
 use Rattle.elements.specs.Seen.{seen_of, seen}
-use Rattle.elements.specs.declared.Seen.{Seen}
-use Rattle.elements.proofs.ContentLoop.{seen_whole, seen_refused}
+use Rattle.elements.proofs.ContentLoop.{then_then}
 
-module _ (class : ℕ → ℕ) (s : List ℕ) (at : ℕ) {begin : ℕ} (around : around_at class (suc (length s)) s at ≡ whole begin) where
-  pub root_refused : {n p : ℕ} → seen s (element_at class s link_limits 32 begin) ≡ refused n p → refused n p ≡ seen s (root_at class s link_limits at)
+module _ (class : ℕ → ℕ) (s : List ℕ) where
+  -- behind the root
+  abbrev pub behind : {A : Type 0} → ℕ → A → Reading A
+  behind place x = around_at class (suc (length s)) s place >>= (λ last. end_at s last >>= (λ end. whole x))
+
+  behind_seen : (e : Element) → seen s (behind e.tag.end e) ≡ behind e.tag.end (seen_of s e)
+  behind_seen e =
+      then_then (around_at class (suc (length s)) s e.tag.end) _ _
+      ∙ then_same _ _ (around_at class (suc (length s)) s e.tag.end) (λ last q. then_then (end_at s last) _ _)
+
+  element_seen : (a : Reading Element) → seen s (a >>= (λ e. behind e.tag.end e)) ≡ (seen s a >>= (λ held. behind held.end held))
+  element_seen (whole e) = behind_seen e
+  element_seen (refused n p) = refl
+
+  pub root_seen : (at : ℕ) → seen s (root_at class s link_limits at) ≡ (around_at class (suc (length s)) s at >>= (λ begin. seen s (element_at class s link_limits 32 begin) >>= (λ held. behind held.end held)))
   unfolding root_at
-  root_refused q = ap (seen s) (stopped _ (seen_refused s (element_at class s link_limits 32 begin) q) ∙ went _ around)
-
-  module _ (held : Seen) (q : seen s (element_at class s link_limits 32 begin) ≡ whole held) where
-    abbrev root : Element
-    root = (seen_whole s (element_at class s link_limits 32 begin) q).0
-
-    held_is : held ≡ seen_of s root
-    held_is = (seen_whole s (element_at class s link_limits 32 begin) q).2
-
-    behind : {a : Reading ℕ} → around_at class (suc (length s)) s held.end ≡ a → around_at class (suc (length s)) s root.tag.end ≡ a
-    behind h = ap (around_at class (suc (length s)) s) (ap (λ (x : Seen). x.end) (sym held_is)) ∙ h
-
-    read : (rest : Element → Reading Element) → seen s (rest root) ≡ seen s (around_at class (suc (length s)) s at >>= (λ b. element_at class s link_limits 32 b >>= rest))
-    read rest = ap (seen s) (went rest (seen_whole s (element_at class s link_limits 32 begin) q).1 ∙ went (λ b. element_at class s link_limits 32 b >>= rest) around)
-
-    pub root_around_refused : {n p : ℕ} → around_at class (suc (length s)) s held.end ≡ refused n p → refused n p ≡ seen s (root_at class s link_limits at)
-    unfolding root_at
-    root_around_refused h = ap (seen s) (stopped _ (behind h)) ∙ read _
-
-    module _ {last : ℕ} (h : around_at class (suc (length s)) s held.end ≡ whole last) where
-      pub root_end_refused : {n p : ℕ} → end_at s last ≡ refused n p → refused n p ≡ seen s (root_at class s link_limits at)
-      unfolding root_at
-      root_end_refused e = ap (seen s) (stopped _ e ∙ went _ (behind h)) ∙ read _
-
-      pub root_whole : {x : ℕ} → end_at s last ≡ whole x → whole held ≡ seen s (root_at class s link_limits at)
-      unfolding root_at
-      root_whole e = ap whole held_is ∙ (ap (seen s) (went _ e ∙ went _ (behind h)) ∙ read _)
+  root_seen at =
+      then_then (around_at class (suc (length s)) s at) _ _
+      ∙ then_same _ _ (around_at class (suc (length s)) s at) (λ begin q. element_seen (element_at class s link_limits 32 begin))

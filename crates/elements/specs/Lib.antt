@@ -1,3 +1,3 @@
--- `Seen` says what is held on to of an element, and `Held` what the code's own ways rest on; both say what the code's enums mean.
+-- `Seen` says what is held on to of an element, and `Held` what the code's own ways rest on, and what its answers say in the terms of the definitions.
 pub mod Seen
 pub mod Held

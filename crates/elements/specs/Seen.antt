@@ -1,16 +1,14 @@
--- What the one pass over a message holds on to of each element, for the messages to be told from each other afterwards, and what the enums of the code
--- say. An element is held on to by the place where its name begins, which is never 0. Assumes nothing.
+-- What the one pass over a message holds on to of each element, for the messages to be told from each other afterwards. An element is held on to by the
+-- place where its name begins, which is never 0. Assumes nothing.
 use Rattle.std.specs.Prelude.{ℕ, suc, ◌+◌, cond, List, eqb}
 use Rattle.message.specs.Reading.{Reading, ◌>>=◌}
-use Rattle.message.specs.Reading.Reading.{whole, refused}
+use Rattle.message.specs.Reading.Reading.{whole}
 use Rattle.message.specs.Elements.{Tag, Elements, Element}
 use Rattle.message.specs.Elements.Elements.{none, more}
 use Rattle.message.specs.Messages.{called}
 use Rattle.message.specs.Words.{advisory_type}
 use Rattle.elements.specs.declared.Inside.{Inside}
 use Rattle.elements.specs.declared.Seen.{Seen}
-use Rattle.elements.specs.declared.Told.{Told}
-use Rattle.elements.specs.declared.Told.TheVariants as tolds
 
 -- ---- what is held on to
 
@@ -53,9 +51,3 @@ noted i child = record {
   typed = cond (eqb i.typed 0) child.mark i.typed;
   nested = cond (eqb i.children 0) child.inside.typed i.nested;
 }
-
--- ---- what the enums say
-
-abbrev pub told_said : Told → Reading Seen
-told_said (tolds.Whole e) = whole e
-told_said (tolds.Refused number place) = refused number place

@@ -15,9 +15,9 @@ pub const LEVELS: u32 = 32;
 
 pub const MOST_PART: usize = 64;
 
-// What is held on to of the elements inside another, each by the place where its name begins, 0 for none: how many they are, the first, the first
-// AdvisoryType among them, and the first inside the first of them.
-#[derive(Clone, Copy)]
+// What is held on to of the elements inside another, each by the place where its name begins: how many they are, the first, the first AdvisoryType among
+// them, and the first inside the first of them. 0 for none, as `inside_of` of specs/Seen has it.
+#[derive(Clone, Copy, Default)]
 pub struct Inside {
     pub children: usize,
     pub first: usize,
@@ -26,7 +26,7 @@ pub struct Inside {
 }
 
 // An element that has been read: where its name begins, where its content stands, the place behind it, and its name's place again if
-// it is an AdvisoryType.
+// it is an AdvisoryType, or else 0, as `mark_of` of specs/Seen has it.
 #[derive(Clone, Copy)]
 pub struct Seen {
     pub begin: usize,
@@ -35,10 +35,4 @@ pub struct Seen {
     pub end: usize,
     pub mark: usize,
     pub inside: Inside,
-}
-
-#[derive(Clone, Copy)]
-pub enum Told {
-    Whole(Seen),
-    Refused(u32, usize),
 }

@@ -1,48 +1,28 @@
-// What is held on to of the elements inside another.
-ghost use Rattle.std.specs.Prelude.{◌≡◌, cond, ◌-◌, ◌<◌, min};
+// What is held on to of the elements inside another, and the parts of the message that are their names.
+ghost use Rattle.std.specs.Prelude.{◌≡◌, ◌<◌};
 ghost use Rattle.laws.specs.Bytes.{same_bytes};
 ghost use Rattle.message.specs.Elements.{part as part_of};
-ghost use Rattle.message.specs.Words.{advisory_type};
-ghost use Rattle.elements.specs.Seen.{nothing_inside, noted as noted_of};
+ghost use Rattle.elements.specs.Held.{type_mark};
+ghost use Rattle.elements.specs.Seen.{noted as noted_of};
 
 use crate::{Inside, Seen};
+use scan::Name;
 
-// How many bytes of a message of n bytes stand from b to e.
-fn span(n: usize, b: usize, e: usize) -> usize
-    ensures { result ≡ min e n - b }
+// The bytes from b to e, as many of them as the message has.
+#[tactic(auto, using(crate::proofs::Compared::part_lent))]
+pub(crate) fn part(s: &[u8], b: usize, e: usize) -> &[u8]
+    ensures { result.now ≡ part_of s.now b e }
 {
-    let stop = if e < n { e } else { n };
-    if b < stop { stop - b } else { 0 }
+    let to = e.min(s.len());
+    &s[b.min(to)..to]
 }
 
 // The bytes from b to e are those of the word.
+#[tactic(auto, using(crate::proofs::Compared::same_compared))]
 pub fn called(s: &[u8], b: usize, e: usize, word: &[u8]) -> bool
     ensures { result ≡ same_bytes (part_of s.now b e) word.now }
 {
-    let n = span(s.len(), b, e);
-    if n != word.len() {
-        return false;
-    }
-    let mut k = 0;
-    while k < n {
-        if s[b + k] != word[k] {
-            return false;
-        }
-        k += 1;
-    }
-    true
-}
-
-// No element is inside.
-pub(crate) fn nothing() -> Inside
-    ensures { result ≡ nothing_inside }
-{
-    Inside {
-        children: 0,
-        first: 0,
-        typed: 0,
-        nested: 0,
-    }
+    part(s, b, e) == word
 }
 
 // The elements inside, and one more behind them.
@@ -66,17 +46,16 @@ pub(crate) fn note(inside: Inside, child: Seen) -> Inside
     }
     Inside {
         children,
-        first: inside.first,
         typed,
-        nested: inside.nested,
+        ..inside
     }
 }
 
-// The element whose name stands from `begin`, and after any colon from `local`, to e: its place again if it is an AdvisoryType.
-pub(crate) fn mark(s: &[u8], begin: usize, local: usize, e: usize) -> usize
-    ensures { result ≡ cond (same_bytes (part_of s.now local e) advisory_type) begin 0 }
+// The element whose name stands from `begin`: its place again if it is an AdvisoryType.
+pub(crate) fn mark(s: &[u8], begin: usize, name: Name) -> usize
+    ensures { result ≡ type_mark s.now begin name }
 {
-    if called(s, local, e, b"AdvisoryType") {
+    if called(s, name.local, name.end, b"AdvisoryType") {
         begin
     } else {
         0

@@ -1,6 +1,6 @@
 -- Promise: the twelve examples of document 01 ("The strength asked of the statements"): one table, one statement. (proofs/Twelve)
 -- Assumes nothing.
-use Rattle.std.specs.Prelude.{◌≡◌, true, List, [], ◌∷◌, ◌++◌, map, ℕ, ◌+◌, ◌-◌, length, take, drop, replicate}
+use Rattle.std.specs.Prelude.{◌≡◌, true, List, [], ◌∷◌, ◌++◌, map, ℕ, ◌+◌, ◌-◌, length, take, drop, replicate, Option, None, Some}
 use Rattle.framing.specs.Cutting.{link_limit}
 use Rattle.framing.specs.Stream.{joined, Part, StreamItem, empty, message as item_of, too_long, Held, fresh as nothingHeld, Calls, Lent, Right}
 use Rattle.message.specs.Words.{codes}
@@ -10,8 +10,6 @@ use Rattle.message.specs.Reading.{Reading}
 use Rattle.message.specs.Reading.Reading.{whole, refused}
 use Rattle.message.specs.Messages.{kind_number, message, message_of, no_status, no_number, no_type}
 use Rattle.message.specs.declared.Kind.TheVariants.{Ok}
-use Rattle.message.specs.declared.Number.{Number}
-use Rattle.message.specs.declared.Number.TheVariants.{Nothing, Names}
 use Rattle.message.specs.declared.Message.{Message}
 use Rattle.conduct.specs.Lists.{flat, those}
 use Rattle.conduct.specs.Session.{Session, usual, fresh}
@@ -32,8 +30,8 @@ Gives boundary stream items waiting =
 -- ---- messages
 
 -- an Ok whose number stands at a place and is so long
-abbrev pub ok_with : ℕ → ℕ → Number → Message
-ok_with place length number = message Ok no_status no_number (record { there = true; place = place; length = length; number = number }) no_number no_type
+abbrev pub ok_with : ℕ → ℕ → Option ℕ → Message
+ok_with place length number = message Ok no_status no_number (record { there = true; place = place; length = length; meaning = number }) no_number no_type
 
 -- an Ok that names 7, with one element inside the other down to a level, the Ok itself being level 1
 abbrev pub nested : ℕ → List ℕ
@@ -109,9 +107,9 @@ twelve =
     listing (codes "##") sample 1 (record { bytes = 22; kind = 4; refusal = 0; place = 0 })
     ∷ listing (codes "##") sample 2 (record { bytes = 4; kind = 0; refusal = 9; place = 4 })
     ∷  -- 007 names nothing
-    reading (codes "<Ok inResponseTo='007'/>") (whole (ok_with 18 3 Nothing))
+    reading (codes "<Ok inResponseTo='007'/>") (whole (ok_with 18 3 None))
     ∷  -- levels 32 and 33
-    reading (nested 32) (whole (ok_with 18 1 (Names 7)))
+    reading (nested 32) (whole (ok_with 18 1 (Some 7)))
     ∷ reading (nested 33) (refused 10 114)
     ∷  -- an Advisory is closed in tick 20
     pushing (advise 17 ∷ ticking 60 ∷ []) ((20, 11) ∷ [])

@@ -9,8 +9,9 @@ use lib.ListN.{length, take, drop, get_or, length-append, length-take, length-dr
 use lib.Seq.{take-suc, take-add, get_or-take, get_or-drop, get_or-append-add, ext_get_or}
 use lib.Dec.{leb}
 use borrow.Author.Tests.{leb-true, leb-false}
+use Rattle.std.proofs.lemmas.Bool.{false_from_ne_true}
 use Rattle.framing.specs.Cutting.{longest_match}
-use Rattle.laws.proofs.Tests.{iff_same, never}
+use Rattle.laws.proofs.Tests.{iff_same}
 use Rattle.laws.proofs.Search.{greatest_is}
 use Rattle.laws.specs.Bytes.{same_at, Ends, ends_with}
 use Rattle.laws.proofs.Tails.{ends_of_test, test_of_ends, too_long_lem, ends_nil, ends_snoc, ends_unsnoc}
@@ -55,7 +56,7 @@ module _ (b : List ℕ) (j c t : ℕ) (within : j < length b) (bounds : (0 < t) 
       test_of_ends _ _ (rw (as_snoc, same) (ends_snoc (take (t - 1) b) (take j b) c (ends_of_agrees b j (t - 1) (omega arith) within h)))
 
   pub last_differs : (get_or b (t - 1) 0 ≡ c → ⊥) → false ≡ ends_with (take t b) (take j b ++ (c ∷ []))
-  last_differs other = sym (never _ (λ p. other (taken_apart p).1))
+  last_differs other = sym (false_from_ne_true _ (λ p. other (taken_apart p).1))
 
   -- and where the last byte is the same, the bytes before it decide
   pub last_same : get_or b (t - 1) 0 ≡ c → same_at (t - 1) b 0 b (j - (t - 1)) ≡ ends_with (take t b) (take j b ++ (c ∷ []))
@@ -70,8 +71,8 @@ module _ (b : List ℕ) (j c t : ℕ) (within : j < length b) (bounds : (0 < t) 
 abbrev pub NoneAbove : ℕ → List ℕ → List ℕ → ℕ → Type 0
 NoneAbove n b w t = (x : ℕ) → t < x → x < n → ends_with (take x b) w ≡ false
 
-pub above_first : (b : List ℕ) (j c : ℕ) → j < length b → NoneAbove (suc (length b)) b (take j b ++ (c ∷ [])) (j + 1)
-above_first b j c within x above below =
+pub above_first : (b : List ℕ) (j c t : ℕ) → j < length b → j < t → NoneAbove (suc (length b)) b (take j b ++ (c ∷ [])) t
+above_first b j c t within long x above below =
     too_long_lem (take x b) (take j b ++ (c ∷ [])) (simp (length-take, length-append) (omega arith))
 
 module _ (n : ℕ) (b w : List ℕ) (t : ℕ) (above : NoneAbove n b w t) where

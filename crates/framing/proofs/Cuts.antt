@@ -9,8 +9,8 @@ use lib.ListN.{length, take, drop, length-append, length-take, take-append-drop}
 use lib.Seq.{take-take, take-append-le, take-append_seam, drop-append_seam}
 use lib.Dec.{leb}
 use borrow.Author.Tests.{leb-true, leb-false}
+use Rattle.std.proofs.lemmas.Bool.{both_ways, false_from_ne_true}
 use Rattle.laws.specs.Bytes.{Ends, ends_with}
-use Rattle.laws.proofs.Tests.{true_false, never}
 use Rattle.laws.proofs.Tails.{ends_of_test, test_of_ends}
 use Rattle.framing.specs.Stream.{joined, Free, Part}
 use Rattle.framing.specs.Promises.{CutOnce, Leftmost}
@@ -26,14 +26,14 @@ ends_there : (b w x y : List ℕ) → w ≡ x ++ (b ++ y) → take (length (x ++
 ends_there b w x y e = ap (take (length (x ++ b))) (e ∙ sym (append_assoc x b y)) ∙ take-append_seam (x ++ b) y
 
 pub free_none : (b w : List ℕ) → Free b w → (e : ℕ) → e ≤ length w → ends_with b (take e w) ≡ false
-free_none b w free e within = never _ (λ h. let there = occurs b w e h in free there.0 (drop e w) there.1)
+free_none b w free e within = false_from_ne_true _ (λ h. let there = occurs b w e h in free there.0 (drop e w) there.1)
 
 pub none_free : (b w : List ℕ) → ((e : ℕ) → e ≤ length w → ends_with b (take e w) ≡ false) → Free b w
 none_free b w none x y e =
     let size = length (x ++ b) in
     let within : size ≤ length w = omega (arith, ap length e, length-append x (b ++ y), length-append x b, length-append b y) in
     let ends : ends_with b (take size w) ≡ true = rw (ends_there b w x y e) (test_of_ends b (x ++ b) (x, refl)) in
-    true_false ends (none size within)
+    both_ways _ (none size within) ends
 
 -- what is free of the boundary does not end with it
 pub not_at_end : (b w : List ℕ) → Free b w → Ends b w → ⊥
@@ -61,7 +61,7 @@ part_first b w e within ends none = record { closed = ends_of_test b (take e w) 
           ap length same,
         ) in
         let there : take n w ≡ x ++ b = sym (take-take n e w (omega arith)) ∙ ends_there b (take e w) x y is in
-        absurd (true_false (rw there (test_of_ends b (x ++ b) (x, refl))) (none n short))
+        absurd (both_ways _ (none n short) (rw there (test_of_ends b (x ++ b) (x, refl))))
 
 -- of two beginnings of one list the shorter begins the longer
 begins_longer : (q r q' r' : List ℕ) → q ++ r ≡ q' ++ r' → length q ≤ length q' → q' ≡ q ++ drop (length q) q'

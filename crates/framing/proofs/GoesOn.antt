@@ -14,6 +14,7 @@ use Rattle.laws.specs.Bytes.{Ends, ends_with}
 use Rattle.laws.proofs.Tests.{iff_same}
 use Rattle.laws.proofs.Search.{least_same, least_skip, greatest_same}
 use Rattle.laws.proofs.Tails.{ends_of_test, test_of_ends, too_long_lem, ends_trans, ends_within}
+use Rattle.std.specs.Prelude.{None, Some}
 use Rattle.framing.specs.declared.Cut.{Cut}
 use Rattle.framing.specs.Cutting.{longest_match, item_end, cut_over, cut_of}
 use Rattle.framing.proofs.Matcher.{longest_below, tail_of_held, tail_of_all}
@@ -79,7 +80,7 @@ module _ (b h : List ℕ) (some : 0 < length b) where
 
 -- how p is cut where the item ends L bytes into it, and what is matched over is w
 unfoldable pub cut_into : List ℕ → List ℕ → List ℕ → ℕ → Bool → Cut
-cut_into b p w L t = cond t (record { ended = true; taken = L; matched = 0 }) (record { ended = false; taken = length p; matched = longest_match (length b) b w })
+cut_into b p w L t = cond t (record { taken = L; matched = None }) (record { taken = length p; matched = Some (longest_match (length b) b w) })
 
 -- of w the first n bytes are no part of the piece
 pub cut_at : (b p w : List ℕ) (n L : ℕ) → item_end b w ≡ n + L → length w ≡ n + length p → cut_over b p n w ≡ cut_into b p w L (leb L (length p))
@@ -146,5 +147,5 @@ module _ (b h p : List ℕ) (some : 0 < length b) (none : (e : ℕ) → e ≤ le
   unfolding cut_of cut_into
   goes_on =
       cut_at b p (take m b ++ p) m into end_held (omega (arith, length-append (take m b) p, size_held))
-      ∙ ap (λ (n : ℕ). cond (leb into (length p)) (record { ended = true; taken = into; matched = 0 }) (record { ended = false; taken = length p; matched = n })) longest_alike
+      ∙ ap (λ (n : ℕ). cond (leb into (length p)) (record { taken = into; matched = None }) (record { taken = length p; matched = Some n })) longest_alike
       ∙ sym (cut_at b p (h ++ p) (length h) into end_all (length-append h p))

@@ -11,6 +11,7 @@ use lib.ListN.{length, take, get_or, length-append, length-take}
 use lib.Seq.{take-suc, take-append-add, take-length}
 use lib.Dec.{leb}
 use borrow.Author.Tests.{le-leb, lt-leb, leb-true, leb-false}
+use Rattle.std.specs.Prelude.{None, Some}
 use Rattle.framing.specs.Cutting.{longest_match, item_end, cut_over, cut_of}
 use Rattle.framing.specs.declared.Cut.{Cut}
 use Rattle.laws.proofs.Tests.{iff_same}
@@ -127,7 +128,7 @@ module _ (b p : List ℕ) (m : ℕ) (held : m < length b) where
         rw (sym matched ∙ full) at (longest_ends (suc (length b)) b (take m b ++ take (suc i) p)) in
         rw (front (suc i)) (test_of_ends b _ (rw take-length at all))
 
-    pub seen_done : r ≡ length b → ◌≡◌ {A = Cut} (record { ended = true; taken = i + 1; matched = 0 }) (cut_of b p m)
+    pub seen_done : r ≡ length b → ◌≡◌ {A = Cut} (record { taken = i + 1; matched = None }) (cut_of b p m)
     unfolding cut_of cut_over item_end
     seen_done full =
         let room : m + suc i ≤ length (take m b ++ p) = omega (arith, length-append (take m b) p, length_held) in
@@ -137,7 +138,7 @@ module _ (b p : List ℕ) (m : ℕ) (held : m < length b) where
         let count : m + suc i - m ≡ i + 1 = omega arith in
         rw (end, le-leb (m + suc i) (length (take m b ++ p)) room, count)
 
-  pub seen_all : (i j : ℕ) → Seen b p m i j → length p ≤ i → ◌≡◌ {A = Cut} (record { ended = false; taken = i; matched = j }) (cut_of b p m)
+  pub seen_all : (i j : ℕ) → Seen b p m i j → length p ≤ i → ◌≡◌ {A = Cut} (record { taken = length p; matched = Some j }) (cut_of b p m)
   unfolding cut_of cut_over item_end
   seen_all i j seen out =
       let all : i ≡ length p = omega (arith, seen.here) in
@@ -146,4 +147,4 @@ module _ (b p : List ℕ) (m : ℕ) (held : m < length b) where
       let end : item_end b (take m b ++ p) ≡ suc (length (take m b ++ p)) =
       least_none (λ e. ends_with b (take e (take m b ++ p))) (suc (length (take m b ++ p)))
       (λ e h. seen.none e (omega arith)) in
-      rw (end, lt-leb (suc (length (take m b ++ p))) (length (take m b ++ p)) (omega arith), whole, all)
+      rw (end, lt-leb (suc (length (take m b ++ p))) (length (take m b ++ p)) (omega arith), whole)

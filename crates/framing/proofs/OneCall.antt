@@ -9,14 +9,14 @@ use lib.ListN.{length, take, drop, length-append, length-take}
 use lib.Seq.{take_all, take-append-add, take-append-le, take-nil, paste, paste-zero}
 use lib.Dec.{leb}
 use borrow.Author.Tests.{leb-true, leb-false, le-leb, lt-leb}
+use Rattle.std.proofs.lemmas.Bool.{both_ways, false_from_ne_true}
 use Rattle.laws.specs.Bytes.{Ends, ends_with}
-use Rattle.laws.proofs.Tests.{true_false, never}
 use Rattle.laws.proofs.Search.{least_passes, least_below, greatest_is}
 use Rattle.laws.proofs.Tails.{ends_of_test, test_of_ends, ends_shorter, ends_nil}
+use Rattle.std.specs.Prelude.{None, Some}
 use Rattle.framing.specs.declared.Cut.{Cut}
-use Rattle.framing.specs.declared.Answer.{Answer}
 use Rattle.framing.specs.declared.Item.TheVariants.{NotYet}
-use Rattle.framing.specs.Cutting.{refusal_of, longest_match, item_end, cut_over, cut_of, count_after, item_of, answered, kept}
+use Rattle.framing.specs.Cutting.{Answer, refusal_of, longest_match, item_end, cut_over, cut_of, count_after, item_of, answered, kept}
 use Rattle.framing.specs.Refusals.{nothing}
 use Rattle.framing.specs.Stream.{Free, Part, item_of_part, Held, answer_to, held_after, Handed, Lent, Begins, Right}
 use Rattle.framing.specs.Promises.{gathered_now, Outcome, waits, completes, CallRight, EveryCallRight}
@@ -78,7 +78,7 @@ module _ (limit : ℕ) (b w : List ℕ) (h : Held) (p : List ℕ) (right : Right
   unfolding longest_match
   m_longest =
       greatest_is (λ j. ends_with (take j b) w) k m m_below (test_of_ends (take m b) w right.tail)
-      (λ j above below. never _ (λ t. let most = right.longest j (omega arith) (ends_of_test (take j b) w t) in omega arith))
+      (λ j above below. false_from_ne_true _ (λ t. let most = right.longest j (omega arith) (ends_of_test (take j b) w t) in omega arith))
 
   m_within : m ≤ g
   m_within =
@@ -171,10 +171,10 @@ module _ (limit : ℕ) (b w : List ℕ) (h : Held) (p : List ℕ) (right : Right
         go : (t : Bool) → leb end (length w) ≡ t → length w < end
         go true e =
             let within = leb-true end (length w) e in
-            absurd (true_false (rw (take-append-le end w p within) at ends) (none end within))
+            absurd (both_ways _ (none end within) (rw (take-append-le end w p within) at ends))
         go false e = leb-false end (length w) e
 
-    found_is : found ≡ record { ended = true; taken = end - length w; matched = 0 }
+    found_is : found ≡ record { taken = end - length w; matched = None }
     unfolding cut_over
     found_is = found_over ∙ rw (le-leb end (length (w ++ p)) inside)
 
@@ -197,7 +197,7 @@ module _ (limit : ℕ) (b w : List ℕ) (h : Held) (p : List ℕ) (right : Right
 
     answer_item : answer_to limit b h p ≡ record { refusal = 0; taken = found.taken; item = item_of limit k (count_after g found.taken); gathered = 0; matched = 0 }
     unfolding answered
-    answer_item = answer_is ∙ rw (ap (λ (c : Cut). c.ended) found_is)
+    answer_item = answer_is ∙ rw (ap (λ (c : Cut). c.matched) found_is)
 
     handed : Handed (answer_to limit b h p).item (held_after limit b h p).store (item_of_part limit b (gathered_now limit b w h p))
     handed =
@@ -219,7 +219,7 @@ module _ (limit : ℕ) (b w : List ℕ) (h : Held) (p : List ℕ) (right : Right
 
   -- NO ITEM ENDS IN THE PIECE
   module _ (past : length (w ++ p) < item_end b (w ++ p)) where
-    open_is : found ≡ record { ended = false; taken = length p; matched = longest_match k b (w ++ p) }
+    open_is : found ≡ record { taken = length p; matched = Some (longest_match k b (w ++ p)) }
     unfolding cut_over
     open_is = found_over ∙ rw (lt-leb (item_end b (w ++ p)) (length (w ++ p)) past)
 
@@ -227,16 +227,16 @@ module _ (limit : ℕ) (b w : List ℕ) (h : Held) (p : List ℕ) (right : Right
     unfolding item_end
     still_free = none_free b (w ++ p) (λ e within. least_below (λ e. ends_with b (take e (w ++ p))) (suc (length (w ++ p))) e (omega arith))
 
-    answer_open : answer_to limit b h p ≡ record { refusal = 0; taken = found.taken; item = NotYet; gathered = count_after g found.taken; matched = found.matched }
+    answer_open : answer_to limit b h p ≡ record { refusal = 0; taken = found.taken; item = NotYet; gathered = count_after g found.taken; matched = longest_match k b (w ++ p) }
     unfolding answered
-    answer_open = answer_is ∙ rw (ap (λ (c : Cut). c.ended) open_is)
+    answer_open = answer_is ∙ rw (ap (λ (c : Cut). c.matched) open_is)
 
     all_taken : (answer_to limit b h p).taken ≡ length p
     all_taken = taken_is ∙ ap (λ (c : Cut). c.taken) open_is
 
     next_match : (held_after limit b h p).matched ≡ longest_match k b (w ++ p)
     unfolding held_after
-    next_match = ap (λ (a : Answer). a.matched) answer_open ∙ ap (λ (c : Cut). c.matched) open_is
+    next_match = ap (λ (a : Answer). a.matched) answer_open
 
     next_count : (held_after limit b h p).gathered ≡ min (length (w ++ p)) 4294967295
     unfolding held_after

@@ -1,7 +1,7 @@
 -- How a piece is cut where the boundary is looked for whole: `cut_found` and `cut_nowhere` by the first place at which it stands, where nothing is held; `seam_ended`
 -- and `seam_nowhere` where a match is held, by the piece's first bytes alone. Assumes nothing.
 use mathlib.Core.Path.{◌≡◌, refl, sym, ap, ◌∙◌}
-use mathlib.Core.Bool.{Bool, true, false, cond}
+use mathlib.Core.Bool.{Bool, true, false, cond, not}
 use mathlib.Core.List.{List, ◌++◌}
 use Prim.Native.Nat.{ℕ, suc, ◌+◌, ◌-◌, ◌≤◌, ◌<◌}
 use native.Mathlib.Nat.{sub-zero, zero-add}
@@ -14,6 +14,7 @@ use Rattle.laws.specs.Search.{least}
 use Rattle.laws.specs.Bytes.{same_bytes, same_at, ends_with}
 use Rattle.laws.proofs.Search.{least_is, least_none, least_same, least_skip, least_below, least_passes, greatest_same}
 use Rattle.laws.proofs.Tails.{too_long_lem}
+use Rattle.std.specs.Prelude.{None, Some, is_some}
 use Rattle.framing.specs.declared.Cut.{Cut}
 use Rattle.framing.specs.Cutting.{longest_match, item_end, cut_over, cut_of}
 use Rattle.framing.specs.Standing.{stands_at}
@@ -53,7 +54,7 @@ module _ (b p : List ℕ) (some : 0 < length b) (room : length b ≤ length p) w
             let here : e ≡ e - length b + length b = omega arith in
             rw here (stands_ends (e - length b) (omega arith) ∙ first.none (e - length b) (omega arith) (omega arith))
 
-    pub cut_found : r < length p - length b + 1 → ◌≡◌ {A = Cut} (record { ended = true; taken = r + length b; matched = 0 }) (cut_of b p 0)
+    pub cut_found : r < length p - length b + 1 → ◌≡◌ {A = Cut} (record { taken = r + length b; matched = None }) (cut_of b p 0)
     unfolding cut_of cut_over item_end
     cut_found below =
         let end : item_end b p ≡ r + length b =
@@ -61,7 +62,7 @@ module _ (b p : List ℕ) (some : 0 < length b) (room : length b ≤ length p) w
         (λ e before. none_before e (omega arith) before) in
         rw (end, le-leb (r + length b) (length p) (omega arith), sub-zero)
 
-    pub cut_nowhere : length p - length b + 1 ≤ r → ◌≡◌ {A = Cut} (record { ended = false; taken = length p; matched = longest_match (length b) b p }) (cut_of b p 0)
+    pub cut_nowhere : length p - length b + 1 ≤ r → ◌≡◌ {A = Cut} (record { taken = length p; matched = Some (longest_match (length b) b p) }) (cut_of b p 0)
     unfolding cut_of cut_over item_end
     cut_nowhere above =
         let end : item_end b p ≡ suc (length p) =
@@ -71,11 +72,11 @@ module _ (b p : List ℕ) (some : 0 < length b) (room : length b ≤ length p) w
 -- ---- a match that is held
 
 -- a cut ends an item exactly where the item's end lies within what is matched over
-ended_is : (b p : List ℕ) (n : ℕ) (w : List ℕ) → (cut_over b p n w).ended ≡ leb (item_end b w) (length w)
+ended_is : (b p : List ℕ) (n : ℕ) (w : List ℕ) → not (is_some (cut_over b p n w).matched) ≡ leb (item_end b w) (length w)
 unfolding cut_over
 ended_is b p n w = go (leb (item_end b w) (length w))
   where
-    go : (t : Bool) → (cond {A = Cut} t (record { ended = true; taken = item_end b w - n; matched = 0 }) (record { ended = false; taken = length p; matched = longest_match (length b) b w })).ended ≡ t
+    go : (t : Bool) → not (is_some (cond {A = Cut} t (record { taken = item_end b w - n; matched = None }) (record { taken = length p; matched = Some (longest_match (length b) b w) })).matched) ≡ t
     go true = refl
     go false = refl
 
@@ -91,12 +92,12 @@ module _ (b p : List ℕ) (m : ℕ) (held : m < length b) (j : ℕ) (within : j 
   size_whole = omega (arith, length-append (take m b) p, length_held b p m held)
 
   -- an item that ends within them ends there in the whole piece
-  pub seam_ended : (cut_of b (take j p) m).ended ≡ true → cut_of b (take j p) m ≡ cut_of b p m
+  pub seam_ended : is_some (cut_of b (take j p) m).matched ≡ false → cut_of b (take j p) m ≡ cut_of b p m
   unfolding cut_of cut_over item_end
   seam_ended ended =
       let v = take m b ++ take j p in
       let w = take m b ++ p in
-      let is : leb (item_end b v) (length v) ≡ true = sym (ended_is b (take j p) m v) ∙ ended in
+      let is : leb (item_end b v) (length v) ≡ true = sym (ended_is b (take j p) m v) ∙ ap not ended in
       let inside = leb-true (item_end b v) (length v) is in
       let passes = least_passes (λ e. ends_with b (take e v)) (suc (length v)) (omega arith) in
       let end : item_end b w ≡ item_end b v =
@@ -106,11 +107,11 @@ module _ (b p : List ℕ) (m : ℕ) (held : m < length b) (j : ℕ) (within : j 
       rw (is, end, le-leb (item_end b v) (length w) (omega (arith, size_front, size_whole)))
 
   -- and where none does, none ends in the whole piece so early
-  seam_free : (cut_of b (take j p) m).ended ≡ false → (e : ℕ) → e ≤ m + j → ends_with b (take e (take m b ++ p)) ≡ false
+  seam_free : is_some (cut_of b (take j p) m).matched ≡ true → (e : ℕ) → e ≤ m + j → ends_with b (take e (take m b ++ p)) ≡ false
   unfolding cut_of cut_over item_end
   seam_free free e low =
       let v = take m b ++ take j p in
-      let is : leb (item_end b v) (length v) ≡ false = sym (ended_is b (take j p) m v) ∙ free in
+      let is : leb (item_end b v) (length v) ≡ false = sym (ended_is b (take j p) m v) ∙ ap not free in
       ap (ends_with b) (sym (same_front e low))
       ∙ least_below (λ e. ends_with b (take e v)) (suc (length v)) e (omega (arith, size_front, leb-false (item_end b v) (length v) is))
 
@@ -150,9 +151,9 @@ module _ (b p : List ℕ) (m : ℕ) (held : m < length b) (room : length b ≤ l
   unfolding cut_of cut_into item_end into
   seam_passed =
       cut_at b p p 0 into (sym (zero-add into)) (omega arith)
-      ∙ ap (λ (n : ℕ). cond {A = Cut} (leb into (length p)) (record { ended = true; taken = into; matched = 0 }) (record { ended = false; taken = length p; matched = n })) longest_alone
+      ∙ ap (λ (n : ℕ). cond {A = Cut} (leb into (length p)) (record { taken = into; matched = None }) (record { taken = length p; matched = Some n })) longest_alone
       ∙ sym (cut_at b p (take m b ++ p) m into end_held (omega (arith, length-append (take m b) p, length_held b p m held)))
 
 -- where no item ends within the piece's first k - 1 bytes, it is cut as with nothing held
-pub seam_nowhere : (b p : List ℕ) (m : ℕ) → m < length b → length b ≤ length p → (cut_of b (take (length b - 1) p) m).ended ≡ false → cut_of b p 0 ≡ cut_of b p m
+pub seam_nowhere : (b p : List ℕ) (m : ℕ) → m < length b → length b ≤ length p → is_some (cut_of b (take (length b - 1) p) m).matched ≡ true → cut_of b p 0 ≡ cut_of b p m
 seam_nowhere b p m held room free = seam_passed b p m held room (seam_free b p m held (length b - 1) (omega arith) free)

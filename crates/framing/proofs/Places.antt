@@ -10,8 +10,7 @@ use lib.Seq.{paste, paste-zero, length-paste}
 use lib.Dec.{leb}
 use borrow.Author.Tests.{leb-true, leb-false}
 use Rattle.laws.proofs.Copies.{laid_before, laid_there, laid_behind}
-use Rattle.framing.specs.declared.Answer.{Answer}
-use Rattle.framing.specs.Cutting.{refusal_of, cut_of, answer_of, kept, store_after}
+use Rattle.framing.specs.Cutting.{Answer, refusal_of, cut_of, answer_of, kept, store_after}
 use Rattle.framing.specs.Refusals.{Accepted}
 use Rattle.framing.specs.Promises.{PlaceRight, EveryPlaceRight}
 use Rattle.framing.proofs.Refusals.{accepted}

@@ -9,8 +9,8 @@ use native.Mathlib.Omega.{arith}
 use lib.ListN.{length, get_or}
 use lib.Dec.{ltb}
 use borrow.Author.Tests.{eq-eqb, ltb-true, ltb-false}
+use Rattle.std.proofs.lemmas.Bool.{both_ways, false_from_ne_true, or_parts}
 use Rattle.laws.specs.Search.{least}
-use Rattle.laws.proofs.Tests.{never, true_false, neither}
 use Rattle.laws.proofs.Search.{least_is, least_none, least_below, least_passes, least_within}
 use Rattle.laws.proofs.Same.{each_same}
 use Rattle.framing.specs.Standing.{stands_at, first_from, pair_at, some_below, block_places, pair_in, may_stand}
@@ -21,7 +21,7 @@ pub none_below : (test : ℕ → Bool) (n : ℕ) → some_below test n ≡ false
 unfolding some_below
 none_below test zero off d below = absurd (omega arith)
 none_below test (suc n) off d below =
-    let both = neither (some_below test n) (test n) off in
+    let both = or_parts (some_below test n) (test n) off in
     go both.1 (ltb d n) refl (λ less. none_below test n both.0 d less)
   where
     go : test n ≡ false → (t : Bool) → ltb d n ≡ t → (d < n → test d ≡ false) → test d ≡ false
@@ -38,11 +38,11 @@ some_more test n t is = rw (add-one, is)
 -- where the boundary stands, every pair of its bytes does
 pub pair_stands : (b : List ℕ) (j : ℕ) (p : List ℕ) (i : ℕ) → j < length b → pair_at b j p i ≡ false → stands_at b p i ≡ false
 pair_stands b j p i inside off =
-    never _
+    false_from_ne_true _
     (λ h.
     let first : get_or p i 0 ≡ get_or b 0 0 = rw (add-zero i) at (each_same b 0 p i (length b) h 0 (omega arith)) in
     let other : get_or p (i + j) 0 ≡ get_or b j 0 = rw zero-add at (each_same b 0 p i (length b) h j inside) in
-    true_false (rw (eq-eqb (get_or p i 0) (get_or b 0 0) first, eq-eqb (get_or p (i + j) 0) (get_or b j 0) other)) off)
+    both_ways _ off (rw (eq-eqb (get_or p i 0) (get_or b 0 0) first, eq-eqb (get_or p (i + j) 0) (get_or b j 0) other)))
 
 -- ---- the first place
 

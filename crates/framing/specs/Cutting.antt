@@ -3,12 +3,15 @@
 -- before it and m the match held from them; k is the boundary's length. `limit` is the most bytes that a message may have.
 -- Nothing here goes through a piece step by step: an item ends at the first place of its kind, and the next match is the longest of its kind.
 -- Assumes nothing.
-use Rattle.std.specs.Prelude.{ℕ, suc, ◌+◌, ◌-◌, min, true, false, cond, ◌||◌, List, ◌++◌, length, take, ltb, leb, eqb}
+use Rattle.std.specs.Prelude.{ℕ, suc, ◌+◌, ◌-◌, min, cond, ◌||◌, None, Some, Result, Ok, Err, ⊤, List, ◌++◌, length, take, ltb, leb, eqb}
 use Rattle.std.proofs.Math.Seq.{paste}
 use Rattle.laws.specs.Search.{least, greatest}
 use Rattle.laws.specs.Bytes.{ends_with}
 use Rattle.framing.specs.declared.Cut.{Cut}
-use Rattle.framing.specs.declared.Answer.{Answer}
+use Rattle.framing.specs.declared.Held.{Held}
+use Rattle.framing.specs.declared.Taken.{Taken}
+use Rattle.framing.specs.declared.Refusal.{Refusal}
+use Rattle.framing.specs.declared.Refusal.TheVariants.{BoundaryLength, StoreTooShort, HeldNumbers}
 use Rattle.framing.specs.declared.Item.{Item}
 use Rattle.framing.specs.declared.Item.TheVariants.{NotYet, Empty, Message, TooLong}
 
@@ -36,12 +39,12 @@ item_end b w = least (λ e. ends_with b (take e w)) (suc (length w))
 unfoldable pub longest_match : ℕ → List ℕ → List ℕ → ℕ
 longest_match n b w = greatest (λ j. ends_with (take j b) w) n
 
--- How the piece p is cut where w is matched over: the bytes before p, of which there are n, and then p.
+-- How the piece p is cut where w is matched over: the bytes before p, of which there are n, and then p. Nothing is matched after an item.
 unfoldable pub cut_over : List ℕ → List ℕ → ℕ → List ℕ → Cut
 cut_over b p n w =
     cond (leb (item_end b w) (length w))
-    (record { ended = true; taken = item_end b w - n; matched = 0 })
-    (record { ended = false; taken = length p; matched = longest_match (length b) b w })
+    (record { taken = item_end b w - n; matched = None })
+    (record { taken = length p; matched = Some (longest_match (length b) b w) })
 
 -- Matching goes on from m: the bytes before p count as the first m of the boundary, whatever the store holds.
 unfoldable pub cut_of : List ℕ → List ℕ → ℕ → Cut
@@ -69,6 +72,14 @@ item_length Empty = 0
 item_length (Message n) = n
 item_length TooLong = 0
 
+-- What a call answers: 0, or the number of its refusal, how many bytes of the piece were taken, what they completed, and the two numbers to hold.
+pub record Answer : Type 0 where
+  pub refusal : ℕ
+  pub taken : ℕ
+  pub item : Item
+  pub gathered : ℕ
+  pub matched : ℕ
+
 -- A refused call takes no byte and hands back the numbers that it was given.
 abbrev pub refused_with : ℕ → ℕ → ℕ → Answer
 refused_with number g m = record { refusal = number; taken = 0; item = NotYet; gathered = g; matched = m }
@@ -76,9 +87,10 @@ refused_with number g m = record { refusal = number; taken = 0; item = NotYet; g
 -- The answer to a cut. Both held numbers are 0 after an item.
 unfoldable pub answered : ℕ → ℕ → ℕ → Cut → Answer
 answered limit k g c =
-    cond c.ended
-    (record { refusal = 0; taken = c.taken; item = item_of limit k (count_after g c.taken); gathered = 0; matched = 0 })
-    (record { refusal = 0; taken = c.taken; item = NotYet; gathered = count_after g c.taken; matched = c.matched })
+    elim c.matched [
+      | None ↦ record { refusal = 0; taken = c.taken; item = item_of limit k (count_after g c.taken); gathered = 0; matched = 0 }
+      | Some m ↦ record { refusal = 0; taken = c.taken; item = NotYet; gathered = count_after g c.taken; matched = m }
+    ]
 
 -- what a call answers
 unfoldable pub answer_of : ℕ → List ℕ → List ℕ → List ℕ → ℕ → ℕ → Answer
@@ -98,3 +110,23 @@ store_after limit b s p g m =
     cond (eqb (refusal_of limit (length b) (length s) g m) 0)
     (paste s g p (kept limit (length b) g (cut_of b p m).taken))
     s
+
+-- WHAT THE CODE SAYS
+
+-- document 01's number of a refusal, and 0 where there is none
+abbrev pub refusal_number : Refusal → ℕ
+refusal_number BoundaryLength = 1
+refusal_number StoreTooShort = 2
+refusal_number HeldNumbers = 26
+
+abbrev pub refusal_said : Result ⊤ Refusal → ℕ
+refusal_said (Ok _) = 0
+refusal_said (Err r) = refusal_number r
+
+-- the answer that a call's result is, where the numbers held were h
+abbrev pub taken_said : Taken → Answer
+taken_said t = record { refusal = 0; taken = t.taken; item = t.item; gathered = t.held.gathered; matched = t.held.matched }
+
+abbrev pub said : Held → Result Taken Refusal → Answer
+said h (Ok t) = taken_said t
+said h (Err r) = refused_with (refusal_number r) h.gathered h.matched

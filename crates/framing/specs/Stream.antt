@@ -2,10 +2,9 @@
 -- Assumes nothing.
 use Rattle.std.specs.Prelude.{ℕ, zero, suc, ◌+◌, ◌-◌, ◌≤◌, ◌<◌, min, ◌≡◌, cond, List, [], ◌∷◌, ◌++◌, length, take, drop, leb, eqb}
 use Rattle.laws.specs.Bytes.{Ends}
-use Rattle.framing.specs.declared.Answer.{Answer}
 use Rattle.framing.specs.declared.Item.{Item}
 use Rattle.framing.specs.declared.Item.TheVariants.{NotYet, Empty, Message, TooLong}
-use Rattle.framing.specs.Cutting.{item_end, answer_of, store_after}
+use Rattle.framing.specs.Cutting.{Answer, item_end, answer_of, store_after}
 
 -- THE STREAM
 

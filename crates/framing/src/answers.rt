@@ -1,53 +1,33 @@
 // What a call answers once the piece is cut: the refusal, the count and the item. No byte is looked at here.
-ghost use Rattle.std.specs.Prelude.{◌≡◌, true, ◌+◌, ◌≤◌};
-ghost use Rattle.framing.specs.Cutting.{refusal_of, refused_with, count_after, item_of, answered};
+ghost use Rattle.std.specs.Prelude.{◌≡◌, None, ◌+◌, ◌≤◌, IfSome};
+ghost use Rattle.framing.specs.Cutting.{refusal_of, refusal_said, taken_said, count_after, item_of, answered};
 
-use crate::{Answer, Cut, Item, MOST_BOUNDARY, MOST_COUNT};
+use crate::{Cut, Held, Item, MOST_BOUNDARY, MOST_COUNT, Refusal, Taken};
 
-// The number of the refusal, and 0 for none: `size` and `room` are the lengths of the boundary and the store.
+// Whether a call is refused: `size` and `room` are the lengths of the boundary and the store.
 #[tactic(auto, unfolding(crate::specs::Cutting::refusal_of))]
-pub(crate) fn refusal(limit: u32, size: usize, room: usize, gathered: u32, matched: u32) -> u32
-    ensures { result ≡ refusal_of limit size room gathered matched }
+pub(crate) fn accepted(limit: u32, size: usize, room: usize, held: Held) -> Result<(), Refusal>
+    ensures { refusal_said result ≡ refusal_of limit size room held.gathered held.matched }
 {
-    if size < 1 {
-        return 1;
-    }
-    if MOST_BOUNDARY < size {
-        return 1;
+    if size < 1 || MOST_BOUNDARY < size {
+        return Err(Refusal::BoundaryLength);
     }
     if room < limit as usize + MOST_BOUNDARY {
-        return 2;
+        return Err(Refusal::StoreTooShort);
     }
-    if size <= matched as usize {
-        return 26;
+    if size <= held.matched as usize || held.gathered < held.matched {
+        return Err(Refusal::HeldNumbers);
     }
-    if gathered < matched {
-        return 26;
-    }
-    0
-}
-
-pub(crate) fn refused(refusal: u32, gathered: u32, matched: u32) -> Answer
-    ensures { result ≡ refused_with refusal gathered matched }
-{
-    Answer {
-        refusal,
-        taken: 0,
-        item: Item::NotYet,
-        gathered,
-        matched,
-    }
+    Ok(())
 }
 
 // The count after `taken` more bytes.
 fn count(gathered: u32, taken: usize) -> u32
     ensures { result ≡ count_after gathered taken }
 {
-    let left = MOST_COUNT - gathered;
-    if left as usize <= taken {
-        return MOST_COUNT;
-    }
-    gathered + taken as u32
+    (gathered as usize)
+        .saturating_add(taken)
+        .min(MOST_COUNT as usize) as u32
 }
 
 // The item of `count` gathered bytes, of which the last `size` are the boundary.
@@ -56,40 +36,39 @@ fn completed(limit: u32, size: u32, count: u32) -> Item
     requires { size ≤ count }
     ensures { result ≡ item_of limit size count }
 {
-    if count == size {
-        return Item::Empty;
-    }
     let length = count - size;
-    if length <= limit {
-        return Item::Message(length);
+    if count == size {
+        Item::Empty
+    } else if length <= limit {
+        Item::Message(length)
+    } else {
+        Item::TooLong
     }
-    Item::TooLong
 }
 
 // The answer to a cut of a piece, where `gathered` bytes were gathered before it.
-pub(crate) fn of_cut(limit: u32, size: usize, gathered: u32, cut: Cut) -> Answer
+#[tactic(auto, unfolding(crate::specs::Cutting::answered))]
+pub(crate) fn of_cut(limit: u32, size: usize, gathered: u32, cut: Cut) -> Taken
     requires boundary_fits { size ≤ 16 }
-    requires match_fits { cut.matched ≤ 16 }
-    requires end_behind_boundary { cut.ended ≡ true → size ≤ gathered + cut.taken }
-    ensures { result ≡ answered limit size gathered cut }
+    requires match_fits { IfSome cut.matched (λ matched. matched ≤ 16) }
+    requires end_behind_boundary { cut.matched ≡ None → size ≤ gathered + cut.taken }
+    ensures { taken_said result ≡ answered limit size gathered cut }
 {
     let taken = cut.taken;
-    let total = count(gathered, taken);
-    if cut.ended {
-        return Answer {
-            refusal: 0,
+    let gathered = count(gathered, taken);
+    match cut.matched {
+        None => Taken {
             taken,
-            item: completed(limit, size as u32, total),
-            gathered: 0,
-            matched: 0,
-        };
-    }
-    let matched = cut.matched;
-    Answer {
-        refusal: 0,
-        taken,
-        item: Item::NotYet,
-        gathered: total,
-        matched: matched as u32,
+            item: completed(limit, size as u32, gathered),
+            held: Held::NOTHING,
+        },
+        Some(matched) => Taken {
+            taken,
+            item: Item::NotYet,
+            held: Held {
+                gathered,
+                matched: matched as u32,
+            },
+        },
     }
 }

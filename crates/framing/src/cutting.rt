@@ -10,12 +10,10 @@ fn tail(boundary: &[u8], piece: &[u8]) -> usize
     requires { (0 < length boundary.now) × (length boundary.now ≤ suc (length piece.now)) }
     ensures { result ≡ longest_match (length boundary.now) boundary.now piece.now }
 {
-    let mut tried = boundary.len() - 1;
-    while 0 < tried {
+    for tried in (1..boundary.len()).rev() {
         if standing::part_stands(boundary, tried, piece, piece.len() - tried) {
             return tried;
         }
-        tried -= 1;
     }
     0
 }
@@ -29,16 +27,15 @@ fn cut_free(boundary: &[u8], piece: &[u8]) -> Cut
     let end = piece.len() - size + 1;
     let place = standing::first_place(boundary, piece, end);
     if place < end {
-        return Cut {
-            ended: true,
+        Cut {
             taken: place + size,
-            matched: 0,
-        };
-    }
-    Cut {
-        ended: false,
-        taken: piece.len(),
-        matched: tail(boundary, piece),
+            matched: None,
+        }
+    } else {
+        Cut {
+            taken: piece.len(),
+            matched: Some(tail(boundary, piece)),
+        }
     }
 }
 
@@ -53,7 +50,7 @@ pub(crate) fn cut_piece(boundary: &[u8], piece: &[u8], held: usize) -> Cut
     if held != 0 {
         let seam = boundary.len() - 1;
         let cut = matching::scan(boundary, &piece[..seam], held);
-        if cut.ended {
+        if cut.matched.is_none() {
             return cut;
         }
     }

@@ -13,10 +13,7 @@ fn ends(boundary: &[u8], matched: usize, byte: u8, tried: usize) -> bool
     ensures { result ≡ ends_with (take tried boundary.now) (take matched boundary.now ++ (byte ∷ [])) }
 {
     let last = tried - 1;
-    if boundary[last] != byte {
-        return false;
-    }
-    standing::part_stands(boundary, last, boundary, matched - last)
+    boundary[last] == byte && standing::part_stands(boundary, last, boundary, matched - last)
 }
 
 // How many bytes of the boundary are matched after `byte`, where `matched` were before it.
@@ -24,12 +21,10 @@ fn step(boundary: &[u8], matched: usize, byte: u8) -> usize
     requires { matched < length boundary.now }
     ensures { result ≡ longest_match (suc (length boundary.now)) boundary.now (take matched boundary.now ++ (byte ∷ [])) }
 {
-    let mut tried = matched + 1;
-    while 0 < tried {
+    for tried in (1..matched + 2).rev() {
         if ends(boundary, matched, byte, tried) {
             return tried;
         }
-        tried -= 1;
     }
     0
 }
@@ -40,21 +35,17 @@ pub(crate) fn scan(boundary: &[u8], piece: &[u8], held: usize) -> Cut
     ensures { result ≡ cut_of boundary.now piece.now held }
 {
     let mut matched = held;
-    let mut i = 0;
-    while i < piece.len() {
-        matched = step(boundary, matched, piece[i]);
-        i += 1;
+    for (i, &byte) in piece.iter().enumerate() {
+        matched = step(boundary, matched, byte);
         if matched == boundary.len() {
             return Cut {
-                ended: true,
-                taken: i,
-                matched: 0,
+                taken: i + 1,
+                matched: None,
             };
         }
     }
     Cut {
-        ended: false,
-        taken: i,
-        matched,
+        taken: piece.len(),
+        matched: Some(matched),
     }
 }

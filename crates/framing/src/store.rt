@@ -9,24 +9,15 @@ pub(crate) fn kept(limit: u32, size: usize, gathered: u32, taken: usize) -> usiz
     ensures { result ≡ kept limit size gathered taken }
 {
     let end = limit as usize + size;
-    let at = gathered as usize;
-    if end <= at {
-        return 0;
-    }
-    if taken <= end - at {
-        return taken;
-    }
-    end - at
+    taken.min(end.saturating_sub(gathered as usize))
 }
 
-// Copies the first `count` of `bytes` into `store` from place `at` on.
+// Copies the first `count` of `bytes` into `store` from place `at` on, which may lie past its end where there are none to copy.
 pub(crate) fn lay(store: &mut [u8], at: usize, bytes: &[u8], count: usize)
     requires { (count ≤ length store.old - at) × (count ≤ length bytes.now) }
     ensures { store.new ≡ paste store.old at bytes.now count }
 {
-    let mut i = 0;
-    while i < count {
-        store[at + i] = bytes[i];
-        i += 1;
+    if count != 0 {
+        store[at..at + count].copy_from_slice(&bytes[..count]);
     }
 }

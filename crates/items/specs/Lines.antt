@@ -1,5 +1,5 @@
 -- Document 01, "The listing": the lines. Assumes nothing.
-use Rattle.std.specs.Prelude.{ℕ, ◌+◌, List, [], ◌++◌, length, take}
+use Rattle.std.specs.Prelude.{ℕ, ◌+◌, List, [], ◌++◌, length, take, Option, None, Some}
 use Rattle.message.specs.Class.{class_of}
 use Rattle.message.specs.Reading.{Reading}
 use Rattle.message.specs.Reading.Reading.{whole, refused}
@@ -23,6 +23,11 @@ stop_line = field stop_word space ++ field (decimal 1) line_end
 unfoldable pub end_line : ℕ → List ℕ
 end_line waiting = field end_word space ++ field (decimal waiting) line_end
 
+-- the bytes of an item where they are counted, and a dash where they are not
+abbrev pub counted : Option ℕ → List ℕ
+counted None = dash
+counted (Some bytes) = decimal bytes
+
 -- the line of an item: its number among the lines, its bytes, kind, refusal and place
 unfoldable pub item_line : ℕ → List ℕ → List ℕ → ℕ → ℕ → List ℕ
 item_line number bytes kind refusal place =
@@ -39,7 +44,7 @@ message_line number w = answer_line number (length w) (message_of class_of link_
 
 -- an item that is too long, refusal 8
 unfoldable pub too_long_line : ℕ → List ℕ
-too_long_line number = item_line number dash dash 8 0
+too_long_line number = item_line number (counted None) dash 8 0
 
 -- What one call of the framing gives to print, the next line's number being `number`: nothing unless it completed an item that isn't empty. The
 -- bytes of a message are the first of the store.

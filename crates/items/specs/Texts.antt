@@ -14,3 +14,7 @@ end_word = codes "end"
 -- `-`, for what is not there
 abbrev pub dash : List ℕ
 dash = codes "-"
+
+-- a line has at most so many bytes
+abbrev pub most_line : ℕ
+most_line = 128

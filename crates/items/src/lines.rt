@@ -1,102 +1,104 @@
-// The lines of the listing, each written to the start of a lent array. A line's length is answered.
-ghost use Rattle.std.specs.Prelude.{◌≡◌, ◌++◌, ◌+◌, ◌≤◌, length, take};
-ghost use Rattle.texts.specs.Prefixes.{IsPrefixLen};
-ghost use Rattle.texts.specs.Fields.{space, line_end, field, decimal};
+// The lines of the listing.
+ghost use Rattle.std.specs.Prelude.{◌≡◌, ◌≤◌, length};
+ghost use Rattle.texts.specs.Fields.{space, field, put_in};
 ghost use Rattle.message.specs.Words.{kind_name};
-ghost use Rattle.items.specs.Texts.{dash};
-ghost use Rattle.items.specs.Lines.{header_line, stop_line, end_line, item_line, message_line, too_long_line};
+ghost use Rattle.items.specs.Texts.{most_line};
+ghost use Rattle.items.specs.Lines.{header_line, stop_line, end_line, counted, item_line, message_line, too_long_line};
 
-use crate::fields;
-use message::{Answer, Kind};
+use message::Kind;
+use texts::{LINE_END, SPACE};
 
-const SPACE: u8 = b' ';
+// No line is longer.
+const MOST_LINE: usize = 128;
 
-const LINE_END: u8 = b'\n';
+pub(crate) type Line = texts::Line<MOST_LINE>;
 
-pub(crate) fn header(out: &mut [u8]) -> usize
-    requires { 128 ≤ length out.old }
-    ensures prefix_len { IsPrefixLen result out.new }
-    ensures written { take result out.new ≡ header_line }
+pub(crate) fn header() -> Line
+    ensures { result ≡ header_line }
 {
-    fields::put(out, 0, b"item bytes kind refusal place", LINE_END)
+    let mut line = Line::new();
+    line.put(b"item bytes kind refusal place", LINE_END);
+    line
 }
 
-pub(crate) fn stop(out: &mut [u8]) -> usize
-    requires { 128 ≤ length out.old }
-    ensures prefix_len { IsPrefixLen result out.new }
-    ensures written { take result out.new ≡ stop_line }
+pub(crate) fn stop() -> Line
+    ensures { result ≡ stop_line }
 {
-    let at = fields::put(out, 0, b"stop", SPACE);
-    fields::put_number(out, at, 1, LINE_END)
+    let mut line = Line::new();
+    line.put(b"stop", SPACE);
+    line.put_number(1, LINE_END);
+    line
 }
 
-pub(crate) fn end(out: &mut [u8], waiting: u32) -> usize
-    requires { 128 ≤ length out.old }
-    ensures prefix_len { IsPrefixLen result out.new }
-    ensures written { take result out.new ≡ end_line waiting }
+pub(crate) fn end(waiting: u32) -> Line
+    ensures { result ≡ end_line waiting }
 {
-    let at = fields::put(out, 0, b"end", SPACE);
-    fields::put_number(out, at, waiting as u64, LINE_END)
+    let mut line = Line::new();
+    line.put(b"end", SPACE);
+    line.put_number(u64::from(waiting), LINE_END);
+    line
 }
 
-// The refusal and the place, behind the kind.
-fn put_refusal(out: &mut [u8], at: usize, refusal: u64, place: u64) -> usize
-    requires { at + 42 ≤ length out.old }
-    ensures prefix_len { IsPrefixLen result out.new }
-    ensures written { take result out.new ≡ take at out.old ++ (field (decimal refusal) space ++ field (decimal place) line_end) }
+fn name(kind: Kind) -> &'static [u8]
+    ensures named { result.now ≡ kind_name kind }
+    ensures within { length result.now ≤ 19 }
 {
-    let next = fields::put_number(out, at, refusal, SPACE);
-    fields::put_number(out, next, place, LINE_END)
+    match kind {
+        Kind::SessionOpenRequest => b"SessionOpenRequest",
+        Kind::SessionOpenResponse => b"SessionOpenResponse",
+        Kind::SessionOk => b"SessionOk",
+        Kind::Ok => b"Ok",
+        Kind::Advisory => b"Advisory",
+        Kind::Request => b"Request",
+        Kind::Response => b"Response",
+    }
 }
 
-// A message that is read.
-fn read_line(out: &mut [u8], number: u64, bytes: usize, kind: Kind) -> usize
-    requires { 128 ≤ length out.old }
-    ensures prefix_len { IsPrefixLen result out.new }
-    ensures written { take result out.new ≡ item_line number (decimal bytes) (kind_name kind) 0 0 }
+// How many bytes an item has, where they are counted.
+fn put_count(line: &mut Line, bytes: Option<usize>)
+    ensures written { line.new ≡ put_in most_line line.old (field (counted bytes) space) }
+    ensures within { length (counted bytes) ≤ 20 }
 {
-    let after_number = fields::put_number(out, 0, number, SPACE);
-    let after_bytes = fields::put_number(out, after_number, bytes as u64, SPACE);
-    let after_kind = fields::put_kind(out, after_bytes, kind, SPACE);
-    put_refusal(out, after_kind, 0, 0)
+    match bytes {
+        Some(count) => line.put_number(count as u64, SPACE),
+        None => line.put(b"-", SPACE),
+    }
 }
 
-// A message that is refused.
-fn refused_line(out: &mut [u8], number: u64, bytes: usize, refusal: u32, place: usize) -> usize
-    requires { 128 ≤ length out.old }
-    ensures prefix_len { IsPrefixLen result out.new }
-    ensures written { take result out.new ≡ item_line number (decimal bytes) dash refusal place }
+// The line of an item: its number, its bytes, its kind, and its refusal and place, which are 0 and 0 where there is none.
+fn item(number: u64, bytes: Option<usize>, kind: &[u8], refusal: u32, place: usize) -> Line
+    requires { length kind.now ≤ 19 }
+    ensures { result ≡ item_line number (counted bytes) kind.now refusal place }
 {
-    let after_number = fields::put_number(out, 0, number, SPACE);
-    let after_bytes = fields::put_number(out, after_number, bytes as u64, SPACE);
-    let after_kind = fields::put(out, after_bytes, b"-", SPACE);
-    put_refusal(out, after_kind, refusal as u64, place as u64)
+    let mut line = Line::new();
+    line.put_number(number, SPACE);
+    put_count(&mut line, bytes);
+    line.put(kind, SPACE);
+    line.put_number(u64::from(refusal), SPACE);
+    line.put_number(place as u64, LINE_END);
+    line
 }
 
-pub(crate) fn too_long(out: &mut [u8], number: u64) -> usize
-    requires { 128 ≤ length out.old }
-    ensures prefix_len { IsPrefixLen result out.new }
-    ensures written { take result out.new ≡ too_long_line number }
+#[tactic(auto, unfolding(crate::specs::Lines::too_long_line))]
+pub(crate) fn too_long(number: u64) -> Line
+    ensures { result ≡ too_long_line number }
 {
-    let after_number = fields::put_number(out, 0, number, SPACE);
-    let after_bytes = fields::put(out, after_number, b"-", SPACE);
-    let after_kind = fields::put(out, after_bytes, b"-", SPACE);
-    put_refusal(out, after_kind, 8, 0)
+    item(number, None, b"-", 8, 0)
 }
 
 // A message, by what the reader says of it.
-pub(crate) fn message(out: &mut [u8], number: u64, message: &[u8]) -> usize
-    requires { 128 ≤ length out.old }
-    ensures prefix_len { IsPrefixLen result out.new }
-    ensures written { take result out.new ≡ message_line number message.now }
+pub(crate) fn message(number: u64, message: &[u8]) -> Line
+    ensures { result ≡ message_line number message.now }
 {
-    let bytes = message.len();
-    let said = reader::read(message);
-    match said {
-        Answer::Read(read) => {
-            let kind = read.kind;
-            read_line(out, number, bytes, kind)
-        }
-        Answer::Refused(refusal, place) => refused_line(out, number, bytes, refusal, place),
+    let bytes = Some(message.len());
+    match reader::read(message) {
+        Ok(read) => item(number, bytes, name(read.kind), 0, 0),
+        Err(refusal) => item(
+            number,
+            bytes,
+            b"-",
+            u32::from(refusal.reason),
+            refusal.place,
+        ),
     }
 }

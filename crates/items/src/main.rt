@@ -4,233 +4,117 @@
 // look whole.
 #![tactic(auto)]
 
-mod fields;
 mod lines;
 mod start;
 mod turns;
 
-ghost use Rattle.std.specs.Prelude.{◌≤◌, length};
-ghost use Rattle.texts.specs.Prefixes.{IsPrefixLen};
+ghost use Rattle.std.specs.Prelude.{◌≤◌, length, IfOk};
 
-use std::io::{Read, Write};
+use start::MOST_START;
+use std::io::{self, ErrorKind, Read, Write};
 use turns::Held;
 
-// The start of the input: how many bytes came, and whether a read failed.
-#[derive(Clone, Copy)]
-struct Begun {
-    length: usize,
-    failed: bool,
-}
-
-// How far the listing came: whether there may be more to read, whether a read or a write failed, and what is held.
-#[derive(Clone, Copy)]
-struct Step {
-    more: bool,
-    failed: bool,
+// A listing behind its header: where it goes, its boundary, the store of the framing, and what is held.
+#[derive(Drop)]
+struct Listing<'a, W> {
+    output: &'a mut W,
+    boundary: &'a [u8],
+    store: &'a mut [u8; 65536],
     held: Held,
 }
 
-// A turn whose line was written, or not.
-#[derive(Clone, Copy)]
-struct Listed {
-    taken: usize,
-    failed: bool,
-    held: Held,
+impl<'a, W: Write> Listing<'a, W> {
+    // One turn on what is left of a piece: how many of its bytes were taken. No run comes to the number at which it stops.
+    fn next(&mut self, piece: &[u8]) -> io::Result<usize>
+        ensures { IfOk result (λ taken. taken ≤ length piece.now) }
+    {
+        if self.held.number == u64::MAX {
+            return Err(io::Error::from(ErrorKind::Other));
+        }
+        let turn = turns::next(self.boundary, self.store, piece, self.held);
+        self.held = turn.held;
+        self.output.write_all(turn.line.as_bytes())?;
+        Ok(turn.taken)
+    }
+
+    // Lists the items that end in a piece. Each turn takes a byte or more, so that no piece uses up its turns.
+    fn piece(&mut self, piece: &[u8]) -> io::Result<()> {
+        let mut rest = piece;
+        for _ in 0..piece.len() {
+            if rest.is_empty() {
+                break;
+            }
+            rest = &rest[self.next(rest)?..];
+        }
+        Ok(())
+    }
+
+    // Reads to the end of the input. A loop has to end, and nothing says that the input does: so the turns are counted, up to a number that
+    // no run comes to.
+    fn rest<R: Read>(&mut self, input: &mut R) -> io::Result<()> {
+        let mut piece = [0u8; 4096];
+        for _ in 0..u64::MAX {
+            let length = input.read(&mut piece)?;
+            if length == 0 {
+                return Ok(());
+            }
+            self.piece(&piece[..length])?;
+        }
+        Err(io::Error::from(ErrorKind::Other))
+    }
 }
 
-// Writes the header, and answers whether it was written.
-fn write_header<W: Write>(output: &mut W) -> bool {
-    let mut out = [0u8; 128];
-    let length = lines::header(&mut out);
-    output.write_all(&out[..length]).is_ok()
-}
-
-// The last lines: where one cannot be written there is nothing left to do.
-fn write_stop<W: Write>(output: &mut W) {
-    let mut out = [0u8; 128];
-    let length = lines::stop(&mut out);
-    let _ = output.write_all(&out[..length]);
-}
-
-fn write_end<W: Write>(output: &mut W, waiting: u32) {
-    let mut out = [0u8; 128];
-    let length = lines::end(&mut out, waiting);
-    let _ = output.write_all(&out[..length]);
-}
-
-// Reads until `first` is full or the input ends; `read_exact` would not tell that from a read that failed, nor how much came.
-fn read_start<R: Read>(input: &mut R, first: &mut [u8]) -> Begun
-    ensures { IsPrefixLen result.length first.new }
+// Reads until `first` is full, the input ends or a read fails, and answers how much came; `read_exact` would not tell that.
+fn read_start<R: Read>(input: &mut R, first: &mut [u8]) -> (usize, io::Result<()>)
+    ensures { result.0 ≤ length first.new }
 {
     let mut done = 0;
     while done < first.len() {
         match input.read(&mut first[done..]) {
-            Ok(0) => {
-                return Begun {
-                    length: done,
-                    failed: false,
-                };
-            }
+            Ok(0) => return (done, Ok(())),
             Ok(n) => done += n,
-            Err(_) => {
-                return Begun {
-                    length: done,
-                    failed: true,
-                };
-            }
+            Err(failure) => return (done, Err(failure)),
         }
     }
-    Begun {
-        length: done,
-        failed: false,
-    }
-}
-
-// One turn on what is left of a piece. No run comes to the number at which it stops.
-fn list_next<W: Write>(
-    output: &mut W,
-    boundary: &[u8],
-    store: &mut [u8],
-    piece: &[u8],
-    held: Held,
-) -> Listed
-    requires { 65536 ≤ length store.old }
-    ensures { result.taken ≤ length piece.now }
-{
-    if held.number == u64::MAX {
-        return Listed {
-            taken: 0,
-            failed: true,
-            held,
-        };
-    }
-    let mut out = [0u8; 128];
-    let turn = turns::next(boundary, store, piece, held, &mut out);
-    let length = turn.length;
-    let failed = output.write_all(&out[..length]).is_err();
-    let after = turn.held;
-    Listed {
-        taken: turn.taken,
-        failed,
-        held: after,
-    }
-}
-
-// Lists the items that end in a piece. Each turn takes a byte or more, so that no piece uses up its turns.
-fn list_piece<W: Write>(
-    output: &mut W,
-    boundary: &[u8],
-    store: &mut [u8],
-    piece: &[u8],
-    first: Held,
-) -> Step
-    requires { 65536 ≤ length store.old }
-{
-    let mut held = first;
-    let mut at = 0;
-    let mut turns = piece.len();
-    while turns > 0 && at < piece.len() {
-        let listed = list_next(output, boundary, store, &piece[at..], held);
-        held = listed.held;
-        if listed.failed {
-            return Step {
-                more: false,
-                failed: true,
-                held,
-            };
-        }
-        at += listed.taken;
-        turns -= 1;
-    }
-    Step {
-        more: true,
-        failed: false,
-        held,
-    }
-}
-
-// Reads once, and lists what came.
-fn list_some<R: Read, W: Write>(
-    input: &mut R,
-    output: &mut W,
-    boundary: &[u8],
-    store: &mut [u8],
-    held: Held,
-) -> Step
-    requires { 65536 ≤ length store.old }
-{
-    let mut piece = [0u8; 4096];
-    match input.read(&mut piece) {
-        Ok(0) => Step {
-            more: false,
-            failed: false,
-            held,
-        },
-        Ok(n) => list_piece(output, boundary, store, &piece[..n], held),
-        Err(_) => Step {
-            more: false,
-            failed: true,
-            held,
-        },
-    }
-}
-
-// Reads to the end of the input. A loop has to end, and nothing says that the input does: so the turns are counted, up to a number that no
-// run comes to.
-fn list_all<R: Read, W: Write>(
-    input: &mut R,
-    output: &mut W,
-    boundary: &[u8],
-    store: &mut [u8],
-    first: Held,
-) -> Step
-    requires { 65536 ≤ length store.old }
-{
-    let mut held = first;
-    for _ in 0..u64::MAX {
-        let step = list_some(input, output, boundary, store, held);
-        if !step.more {
-            return step;
-        }
-        held = step.held;
-    }
-    Step {
-        more: true,
-        failed: true,
-        held,
-    }
+    (done, Ok(()))
 }
 
 // Lists an input that begins with these bytes: its first 17, or all if they are fewer, or those before a read that failed.
-fn list_input<R: Read, W: Write>(input: &mut R, output: &mut W, first: &[u8], failed: bool) {
+fn list<R: Read, W: Write>(
+    input: &mut R,
+    output: &mut W,
+    first: &[u8],
+    begun: io::Result<()>,
+) -> io::Result<()> {
     let end = start::boundary_end(first);
     if start::refused_end(end) {
         // Where a read failed, an LF that is not there may be among the bytes that did not come.
-        if end == 0 || !failed {
-            write_stop(output);
+        if end != 0 {
+            begun?;
         }
-        return;
+        return output.write_all(lines::stop().as_bytes());
     }
-    let mut store = [0u8; 65536];
-    let fresh = turns::fresh();
-    let step = list_piece(output, &first[..end], &mut store, &first[end + 1..], fresh);
-    if failed || step.failed {
-        return;
-    }
-    let last = list_all(input, output, &first[..end], &mut store, step.held);
-    if !last.failed {
-        write_end(output, last.held.gathered);
-    }
+    let mut listing = Listing {
+        output,
+        boundary: &first[..end],
+        store: &mut [0u8; 65536],
+        held: turns::fresh(),
+    };
+    listing.piece(&first[end + 1..])?;
+    begun?;
+    listing.rest(input)?;
+    let waiting = listing.held.cut.gathered;
+    output.write_all(lines::end(waiting).as_bytes())
+}
+
+fn run<R: Read, W: Write>(input: &mut R, output: &mut W) -> io::Result<()> {
+    output.write_all(lines::header().as_bytes())?;
+    let mut first = [0u8; MOST_START];
+    let (length, begun) = read_start(input, &mut first);
+    list(input, output, &first[..length], begun)
 }
 
 // The exit status is always 0: what failed shows by the last line, which is not there.
 fn main(rt: HostRuntime) {
-    let mut input = rt.stdin();
-    let mut output = rt.stdout();
-    if write_header(&mut output) {
-        let mut first = [0u8; 17];
-        let begun = read_start(&mut input, &mut first);
-        let n = begun.length;
-        list_input(&mut input, &mut output, &first[..n], begun.failed);
-    }
+    let _ = run(&mut rt.stdin(), &mut rt.stdout());
 }

@@ -1,26 +1,24 @@
 // A turn of the program: one call of the framing, and the line that it gives to print.
-ghost use Rattle.std.specs.Prelude.{◌≡◌, ◌≤◌, ◌<◌, length, take};
-ghost use Rattle.texts.specs.Prefixes.{IsPrefixLen};
+ghost use Rattle.std.specs.Prelude.{◌≡◌, ◌≤◌, ◌<◌, length};
 ghost use Rattle.framing.specs.Cutting.{item_length, store_after, link_limit};
 ghost use Rattle.items.specs.Lines.{line_after, number_after};
-ghost use Rattle.items.specs.Turns.{fresh_held, line_of_turn, turn_of};
+ghost use Rattle.items.specs.Turns.{fresh_held, turn_of};
 
-use crate::lines;
+use crate::lines::{self, Line};
 use framing::Item;
 
-// What is held between the calls: the framing's two numbers, and the number of the next line.
+// What is held between the calls: what the framing holds, and the number of the next line.
 #[derive(Clone, Copy)]
 pub(crate) struct Held {
-    pub(crate) gathered: u32,
-    pub(crate) matched: u32,
+    pub(crate) cut: framing::Held,
     pub(crate) number: u64,
 }
 
-// What a turn answers: the bytes of the piece that were taken, the length of the line, and what is held.
-#[derive(Clone, Copy)]
+// What a turn answers: the bytes of the piece that were taken, the line, which is empty where there is none, and what is held.
+#[derive(Drop)]
 pub(crate) struct Turn {
     pub(crate) taken: usize,
-    pub(crate) length: usize,
+    pub(crate) line: Line,
     pub(crate) held: Held,
 }
 
@@ -28,27 +26,20 @@ pub(crate) fn fresh() -> Held
     ensures { result ≡ fresh_held }
 {
     Held {
-        gathered: 0,
-        matched: 0,
+        cut: framing::Held::NOTHING,
         number: 1,
     }
 }
 
-// The line of what a call completed, and 0 for its length where that has none.
-fn item_line(out: &mut [u8], number: u64, item: Item, store: &[u8]) -> usize
-    requires in_bounds { 128 ≤ length out.old }
-    requires item_in_bounds { item_length item ≤ length store.now }
-    ensures prefix_len { IsPrefixLen result out.new }
-    ensures written { take result out.new ≡ line_after number item store.now }
+// The line of what a call completed.
+fn item_line(number: u64, item: Item, store: &[u8]) -> Line
+    requires { item_length item ≤ length store.now }
+    ensures { result ≡ line_after number item store.now }
 {
     match item {
-        Item::NotYet => 0,
-        Item::Empty => 0,
-        Item::Message(length) => {
-            let length = length as usize;
-            lines::message(out, number, &store[..length])
-        }
-        Item::TooLong => lines::too_long(out, number),
+        Item::NotYet | Item::Empty => Line::new(),
+        Item::Message(length) => lines::message(number, &store[..length as usize]),
+        Item::TooLong => lines::too_long(number),
     }
 }
 
@@ -58,43 +49,31 @@ fn next_number(number: u64, item: Item) -> u64
     ensures { result ≡ number_after number item }
 {
     match item {
-        Item::NotYet => number,
-        Item::Empty => number,
-        Item::Message(_) => number + 1,
-        Item::TooLong => number + 1,
+        Item::NotYet | Item::Empty => number,
+        Item::Message(_) | Item::TooLong => number + 1,
     }
 }
 
-// Cuts the piece, up to the end of one item, and writes its line.
-pub(crate) fn next(
-    boundary: &[u8],
-    store: &mut [u8],
-    piece: &[u8],
-    held: Held,
-    out: &mut [u8],
-) -> Turn
-    requires store_in_bounds { 65536 ≤ length store.old }
-    requires number_bound { held.number < 18446744073709551615 }
-    requires line_in_bounds { 128 ≤ length out.old }
-    ensures prefix_len { IsPrefixLen result.length out.new }
+// Cuts the piece, up to the end of one item, and gives its line. A call that the framing refuses takes nothing; the program makes none.
+pub(crate) fn next(boundary: &[u8], store: &mut [u8; 65536], piece: &[u8], held: Held) -> Turn
+    requires { held.number < 18446744073709551615 }
     ensures within { result.taken ≤ length piece.now }
     ensures turned { result ≡ turn_of boundary.now store.old piece.now held }
-    ensures written { take result.length out.new ≡ line_of_turn boundary.now store.old piece.now held }
-    ensures stored { store.new ≡ store_after link_limit boundary.now store.old piece.now held.gathered held.matched }
+    ensures stored { store.new ≡ store_after link_limit boundary.now store.old piece.now held.cut.gathered held.cut.matched }
 {
-    let said = framing::gather(boundary, store, piece, held.gathered, held.matched);
-    let item = said.item;
-    let number = held.number;
-    let length = item_line(out, number, item, store);
-    let next = next_number(number, item);
-    let after = Held {
-        gathered: said.gathered,
-        matched: said.matched,
-        number: next,
+    let Ok(said) = framing::gather(boundary, store, piece, held.cut) else {
+        return Turn {
+            taken: 0,
+            line: Line::new(),
+            held,
+        };
     };
     Turn {
         taken: said.taken,
-        length,
-        held: after,
+        line: item_line(held.number, said.item, store),
+        held: Held {
+            cut: said.held,
+            number: next_number(held.number, said.item),
+        },
     }
 }

@@ -3,16 +3,17 @@ use mathlib.Core.Path.{◌≡◌, sym, ap, ◌∙◌}
 use mathlib.Core.Bool.{Bool, true, false, ◌&&◌}
 use mathlib.Core.List.{List}
 use Prim.Native.Nat.{ℕ, suc, ◌+◌, ◌-◌, ◌≤◌, ◌<◌}
-use native.Mathlib.Numerals.{add-one}
 use native.Mathlib.Omega.{arith}
 use native.Mathlib.Decide.{dec_lt}
 use lib.ListN.{length, take, drop, get_or, length-take, length-drop}
-use lib.Seq.{drop-cons, get_or-take, get_or-drop, ext_get_or}
+use lib.Seq.{get_or-take, get_or-drop, ext_get_or}
 use lib.Dec.{eqb}
 use borrow.Author.Tests.{eqb-true, eq-eqb}
 use borrow.Author.Count.{below_more}
+use Rattle.std.proofs.lemmas.Bool.{both_ways, false_from_ne_true}
+use Rattle.std.proofs.lemmas.List.{drop_more}
 use Rattle.laws.specs.Bytes.{same_bytes, same_at}
-use Rattle.laws.proofs.Tests.{iff_same, never, true_false}
+use Rattle.laws.proofs.Tests.{iff_same}
 use Rattle.laws.proofs.Tails.{same_refl, same_eq}
 
 module _ (b : List ℕ) (j : ℕ) (p : List ℕ) (i : ℕ) where
@@ -34,7 +35,7 @@ module _ (b : List ℕ) (j : ℕ) (p : List ℕ) (i : ℕ) where
       rw parts (same_refl (take n (drop j b)))
 
   pub one_other : (n y : ℕ) → y < n → (get_or p (i + y) 0 ≡ get_or b (j + y) 0 → ⊥) → same_at n b j p i ≡ false
-  one_other n y below other = never _ (λ h. other (each_same n h y below))
+  one_other n y below other = false_from_ne_true _ (λ h. other (each_same n h y below))
 
   -- nothing is the same as nothing
   pub same_none : same_at 0 b j p i ≡ true
@@ -44,7 +45,7 @@ module _ (b : List ℕ) (j : ℕ) (p : List ℕ) (i : ℕ) where
   -- the first byte, and those behind it
   pub same_first : (n : ℕ) → j < length b → i < length p → same_at (suc n) b j p i ≡ (eqb (get_or p i 0) (get_or b j 0) && same_at n b (j + 1) p (i + 1))
   unfolding same_bytes same_at
-  same_first n inside within = rw (add-one i, add-one j, drop-cons p i 0, drop-cons b j 0)
+  same_first n inside within = rw (drop_more p i 0, drop_more b j 0)
 
   -- one byte more
   pub same_more : (n : ℕ) (t : Bool) → j + (n + 1) ≤ length b → i + (n + 1) ≤ length p → t ≡ same_at n b j p i
@@ -54,7 +55,7 @@ module _ (b : List ℕ) (j : ℕ) (p : List ℕ) (i : ℕ) where
       (λ h. all_same (n + 1) inside within (below_more _ n (each_same n (sym is)) (eqb-true _ _ h)))
       (λ h. eq-eqb _ _ (each_same (n + 1) h n (omega arith)))
   same_more n false inside within is =
-      sym (never _ (λ h. true_false (all_same n (omega arith) (omega arith) (λ y below. each_same (n + 1) h y (omega arith))) (sym is)))
+      sym (false_from_ne_true _ (λ h. both_ways _ (sym is) (all_same n (omega arith) (omega arith) (λ y below. each_same (n + 1) h y (omega arith)))))
 
 -- m bytes from the k-th on
 module _ (b : List ℕ) (j : ℕ) (p : List ℕ) (i k m : ℕ) (inside : j + (k + m) ≤ length b) (within : i + (k + m) ≤ length p) where
@@ -68,7 +69,7 @@ module _ (b : List ℕ) (j : ℕ) (p : List ℕ) (i k m : ℕ) (inside : j + (k 
 
   -- where they are others, n bytes that have them are
   pub other_part : (n : ℕ) → k + m ≤ n → same_at m b (j + k) p (i + k) ≡ false → same_at n b j p i ≡ false
-  other_part n short off = never _ (λ h. true_false (part_same n short h) off)
+  other_part n short off = false_from_ne_true _ (λ h. both_ways _ off (part_same n short h))
 
   -- where n bytes are the same, and the m begin among them or right behind them, all are if the m are
   pub same_joined : (n : ℕ) → k ≤ n → same_at n b j p i ≡ true → same_at m b (j + k) p (i + k) ≡ same_at (k + m) b j p i

@@ -6,8 +6,8 @@ use native.Mathlib.Nat.{le_of_suc-le-suc, zero-add, suc-add}
 use native.Mathlib.Omega.{arith}
 use lib.Dec.{ltb}
 use borrow.Author.Tests.{ltb-true, ltb-false}
+use Rattle.std.proofs.lemmas.Bool.{both_ways}
 use Rattle.laws.specs.Search.{least, greatest}
-use Rattle.laws.proofs.Tests.{true_false}
 
 pub least_is : (test : ℕ → Bool) (n r : ℕ) → r < n → test r ≡ true → ((j : ℕ) → j < r → test j ≡ false) → least test n ≡ r
 unfolding least
@@ -121,7 +121,7 @@ greatest_above test (suc n) j h p = go (test n) refl (λ below. greatest_above t
         other true l = ltb-true j n l
         other false l =
             let same : j ≡ n = omega (arith, ltb-false j n l) in
-            absurd (true_false (rw same at p) e)
+            absurd (both_ways _ e (rw same at p))
 
 -- where the greatest below n + 1 is not n, it is the greatest below n
 pub greatest_less : (test : ℕ → Bool) (n r : ℕ) → r ≡ greatest test (suc n) → (r ≡ n → ⊥) → (test n ≡ false) × (greatest test n ≡ r)

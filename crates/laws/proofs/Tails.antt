@@ -5,11 +5,12 @@ use mathlib.Core.List.{List, [], ◌∷◌, ◌++◌, append_assoc, append-nil}
 use Prim.Native.Nat.{ℕ, ◌-◌, ◌≤◌, ◌<◌}
 use native.Mathlib.Omega.{arith}
 use lib.ListN.{length, take, drop, length-append, take-append-drop}
-use lib.Seq.{drop_at, take_at, drop-append-le, drop-append_seam}
+use lib.Seq.{drop_at, drop-append-le, drop-append_seam}
 use lib.Dec.{eqb}
 use borrow.Author.Tests.{eq-eqb, eqb-true}
+use Rattle.std.proofs.lemmas.Bool.{false_from_ne_true}
+use Rattle.std.proofs.lemmas.List.{same_from_push}
 use Rattle.laws.specs.Bytes.{same_bytes, Ends, ends_with}
-use Rattle.laws.proofs.Tests.{true_false, never}
 
 pub same_refl : (u : List ℕ) → same_bytes u u ≡ true
 unfolding same_bytes
@@ -19,13 +20,13 @@ same_refl (x ∷ u) = rw (eq-eqb x x refl) (same_refl u)
 pub same_eq : (u v : List ℕ) → same_bytes u v ≡ true → u ≡ v
 unfolding same_bytes
 same_eq [] [] h = refl
-same_eq [] (y ∷ v) h = absurd (true_false refl (sym h))
-same_eq (x ∷ u) [] h = absurd (true_false refl (sym h))
+same_eq [] (y ∷ v) h = cc
+same_eq (x ∷ u) [] h = cc
 same_eq (x ∷ u) (y ∷ v) h = go (eqb x y) refl h (same_eq u v)
   where
     go : (t : Bool) → eqb x y ≡ t → (t && same_bytes u v) ≡ true → (same_bytes u v ≡ true → u ≡ v) → x ∷ u ≡ y ∷ v
     go true e h ih = let heads = eqb-true x y e in let rest = ih h in cc
-    go false e h ih = absurd (true_false refl (sym h))
+    go false e h ih = cc
 
 pub ends_of_test : (u w : List ℕ) → ends_with u w ≡ true → Ends u w
 unfolding ends_with
@@ -45,7 +46,7 @@ ends_shorter u w h = omega (arith, ap length h.1, length-append h.0 u)
 
 -- a list that is too long is no tail
 pub too_long_lem : (u w : List ℕ) → length w < length u → ends_with u w ≡ false
-too_long_lem u w h = never (ends_with u w) (λ t. let s = ends_shorter u w (ends_of_test u w t) in omega arith)
+too_long_lem u w h = false_from_ne_true (ends_with u w) (λ t. let s = ends_shorter u w (ends_of_test u w t) in omega arith)
 
 pub ends_self : (w : List ℕ) → Ends w w
 ends_self w = ([], refl)
@@ -67,17 +68,7 @@ ends_within u v w h k shorter =
 pub ends_snoc : (u w : List ℕ) (c : ℕ) → Ends u w → Ends (u ++ (c ∷ [])) (w ++ (c ∷ []))
 ends_snoc u w c h = (h.0, ap (λ (l : List ℕ). l ++ (c ∷ [])) h.1 ∙ append_assoc h.0 u (c ∷ []))
 
-snoc_inj : (u v : List ℕ) (a c : ℕ) → u ++ (a ∷ []) ≡ v ++ (c ∷ []) → (u ≡ v) × (a ≡ c)
-snoc_inj u v a c e =
-    let n = length u in
-    let len : length v ≡ n = omega (arith, ap length e, length-append u (a ∷ []), length-append v (c ∷ [])) in
-    let lasts : a ∷ [] ≡ c ∷ [] = sym (drop_at u (a ∷ []) n refl) ∙ ap (drop n) e ∙ drop_at v (c ∷ []) n len in
-    (sym (take_at u (a ∷ []) n refl) ∙ ap (take n) e ∙ take_at v (c ∷ []) n len, head lasts)
-  where
-    head : a ∷ [] ≡ c ∷ [] → a ≡ c
-    head p = cc
-
 pub ends_unsnoc : (u w : List ℕ) (a c : ℕ) → Ends (u ++ (a ∷ [])) (w ++ (c ∷ [])) → Ends u w × (a ≡ c)
 ends_unsnoc u w a c h =
-    let both = snoc_inj w (h.0 ++ u) c a (h.1 ∙ sym (append_assoc h.0 u (a ∷ []))) in
+    let both = same_from_push w (h.0 ++ u) c a (h.1 ∙ sym (append_assoc h.0 u (a ∷ []))) in
     ((h.0, both.0), sym both.1)

@@ -6,8 +6,7 @@ use mathlib.Core.List.{List}
 use Prim.Native.Nat.{ℕ}
 use lib.ListN.{length}
 use borrow.Author.Tests.{eq-eqb}
-use Rattle.framing.specs.declared.Answer.{Answer}
-use Rattle.framing.specs.Cutting.{link_limit, refusal_of, answer_of, store_after}
+use Rattle.framing.specs.Cutting.{Answer, link_limit, refusal_of, answer_of, store_after}
 use Rattle.framing.proofs.Unchanged.{answer_refusal}
 use Rattle.line.specs.Lists.{too_short, written}
 use Rattle.line.specs.Gather.{gather_refusal, gather_store, answer_numbers, gather_list}

@@ -1,5 +1,5 @@
 -- `Written` has the laws on the list, and `Cases` and `ReadCases` the cases of a call for its proof. The theorems of specs/Refusals stand in `GatherRefusals` and
--- `ReadRefusals`, those of specs/Promises in `GatherNumbers`, `ReadNumbers` and `ReadPlaces`; `OneAnswer` says that the contracts have one answer.
+-- `ReadRefusals`, those of specs/Promises in `GatherNumbers`, `ReadNumbers` and `ReadPlaces`, those of specs/Names in `Names`; `OneAnswer` says that the contracts have one answer.
 mod Written
 mod Cases
 mod ReadCases
@@ -8,4 +8,5 @@ pub mod GatherNumbers
 pub mod ReadRefusals
 pub mod ReadNumbers
 pub mod ReadPlaces
+pub mod Names
 pub mod OneAnswer

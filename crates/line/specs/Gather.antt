@@ -1,8 +1,7 @@
 -- What `ali_gather` returns and leaves, for the boundary b, the store s, the piece p, the held numbers g and m, and the answer list a.
 -- Assumes nothing.
 use Rattle.std.specs.Prelude.{ℕ, cond, List, [], ◌∷◌, length, eqb}
-use Rattle.framing.specs.declared.Answer.{Answer}
-use Rattle.framing.specs.Cutting.{link_limit, refusal_of, item_number, item_length, answer_of, store_after}
+use Rattle.framing.specs.Cutting.{Answer, link_limit, refusal_of, item_number, item_length, answer_of, store_after}
 use Rattle.line.specs.Lists.{too_short, written}
 
 -- the refusals in their order: 3, then the framing's own

@@ -1,15 +1,13 @@
 -- What the list holds after a call that is not refused: the theorems, each with the file of proofs/ that shows it. (Those on refused calls stand in
 -- `Refusals`.) Assumes nothing.
-use Rattle.std.specs.Prelude.{ℕ, ◌≤◌, ◌≡◌, true, false, List, [], ◌∷◌, length, take, drop, replicate}
-use Rattle.framing.specs.declared.Answer.{Answer}
-use Rattle.framing.specs.Cutting.{link_limit, item_number, item_length, answer_of}
+use Rattle.std.specs.Prelude.{ℕ, ◌≤◌, ◌≡◌, true, false, List, [], ◌∷◌, length, take, drop, replicate, None, Some}
+use Rattle.framing.specs.Cutting.{Answer, link_limit, item_number, item_length, answer_of}
 use Rattle.message.specs.Class.{class_of}
 use Rattle.message.specs.Reading.{Reading}
 use Rattle.message.specs.Reading.Reading.{whole, refused}
 use Rattle.message.specs.Limits.{link_limits}
 use Rattle.message.specs.Messages.{message_of, message, no_number, no_status, no_type}
 use Rattle.message.specs.declared.Kind.TheVariants as kinds
-use Rattle.message.specs.declared.Number.TheVariants.{Nothing, Names}
 use Rattle.message.specs.declared.Status.TheVariants as statuses
 use Rattle.message.specs.declared.Advice.TheVariants as advices
 use Rattle.message.specs.declared.Message.{Message}
@@ -48,9 +46,9 @@ abbrev pub EachAtItsPlace : Type 0
 EachAtItsPlace =
     read_numbers
     (whole
-    (message kinds.Response (record { there = true; place = 31; length = 41; status = statuses.RedundantSession })
-    (record { there = true; place = 32; length = 42; number = Names 52 }) (record { there = false; place = 33; length = 43; number = Names 53 })
-    (record { there = true; place = 34; length = 44; number = Nothing }) (record { there = true; place = 35; length = 45; advice = advices.UnreadableMessage })))
+    (message kinds.Response (record { there = true; place = 31; length = 41; meaning = statuses.RedundantSession })
+    (record { there = true; place = 32; length = 42; meaning = Some 52 }) (record { there = false; place = 33; length = 43; meaning = Some 53 })
+    (record { there = true; place = 34; length = 44; meaning = None }) (record { there = true; place = 35; length = 45; meaning = advices.UnreadableMessage })))
     ≡ 0 ∷ 0 ∷ 7
     ∷ 1 ∷ 31 ∷ 41 ∷ 2 ∷ 0
     ∷ 1 ∷ 32 ∷ 42 ∷ 1 ∷ 52

@@ -1,14 +1,14 @@
 -- What `ali_read` returns and leaves, for the message s and the answer list a. Assumes nothing.
-use Rattle.std.specs.Prelude.{ℕ, Bool, cond, List, [], ◌∷◌, ◌++◌, replicate}
+use Rattle.std.specs.Prelude.{ℕ, Bool, cond, List, [], ◌∷◌, ◌++◌, replicate, Option}
 use Rattle.message.specs.Class.{class_of}
 use Rattle.message.specs.Reading.{Reading}
 use Rattle.message.specs.Reading.Reading.{whole, refused}
 use Rattle.message.specs.Limits.{link_limits}
 use Rattle.message.specs.Messages.{message_of, kind_number}
 use Rattle.message.specs.Values.{number_flag, number_named, status_number, advice_number}
-use Rattle.message.specs.declared.NumberValue.{NumberValue}
-use Rattle.message.specs.declared.StatusValue.{StatusValue}
-use Rattle.message.specs.declared.TypeValue.{TypeValue}
+use Rattle.message.specs.declared.Value.{Value}
+use Rattle.message.specs.declared.Status.{Status}
+use Rattle.message.specs.declared.Advice.{Advice}
 use Rattle.message.specs.declared.Message.{Message}
 use Rattle.line.specs.Lists.{too_short, written}
 
@@ -22,14 +22,14 @@ read_return a = cond (too_short a) 3 0
 abbrev pub value_numbers : Bool → ℕ → ℕ → ℕ → ℕ → List ℕ
 value_numbers there place bytes meaning named = cond there 1 0 ∷ place ∷ bytes ∷ meaning ∷ named ∷ []
 
-unfoldable pub number_numbers : NumberValue → List ℕ
-number_numbers v = value_numbers v.there v.place v.length (number_flag v.number) (number_named v.number)
+unfoldable pub number_numbers : Value (Option ℕ) → List ℕ
+number_numbers v = value_numbers v.there v.place v.length (number_flag v.meaning) (number_named v.meaning)
 
-unfoldable pub status_numbers : StatusValue → List ℕ
-status_numbers v = value_numbers v.there v.place v.length (status_number v.status) 0
+unfoldable pub status_numbers : Value Status → List ℕ
+status_numbers v = value_numbers v.there v.place v.length (status_number v.meaning) 0
 
-unfoldable pub type_numbers : TypeValue → List ℕ
-type_numbers v = value_numbers v.there v.place v.length (advice_number v.advice) 0
+unfoldable pub type_numbers : Value Advice → List ℕ
+type_numbers v = value_numbers v.there v.place v.length (advice_number v.meaning) 0
 
 -- a message that was read: refusal 0, place 0, the kind, and the five values
 unfoldable pub message_numbers : Message → List ℕ

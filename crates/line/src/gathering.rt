@@ -3,6 +3,7 @@ ghost use Rattle.std.specs.Prelude.{◌≡◌};
 ghost use Rattle.line.specs.Gather.{gather_refusal, gather_store, gather_list};
 
 use crate::lists;
+use framing::Held;
 
 // Returns 0, or the number of the refusal; a refused call writes nothing anywhere. Otherwise the bytes taken, the item's number, a
 // message's length and the two numbers to hold stand at the start of `answer`.
@@ -23,18 +24,16 @@ pub extern "C" fn ali_gather(
     if answer.len() < lists::PLACES {
         return 3;
     }
-    let said = framing::gather(boundary, store, piece, gathered, matched);
-    let refusal = said.refusal;
-    if refusal != 0 {
-        return refusal;
-    }
-    let item = said.item;
+    let call = match framing::gather(boundary, store, piece, Held { gathered, matched }) {
+        Ok(call) => call,
+        Err(refusal) => return refusal.into(),
+    };
     let numbers = [
-        said.taken as u64,
-        item.number() as u64,
-        item.length() as u64,
-        said.gathered as u64,
-        said.matched as u64,
+        call.taken as u64,
+        u32::from(call.item) as u64,
+        call.item.length() as u64,
+        call.held.gathered as u64,
+        call.held.matched as u64,
     ];
     lists::write(answer, 0, &numbers);
     0

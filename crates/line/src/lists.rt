@@ -1,4 +1,4 @@
-// The answer list that C lends: an answer's numbers go to its start.
+// The answer list that C lends: an answer's numbers go to its start. The C interface hands in a list, so that it and a place in it travel through the crate.
 ghost use Rattle.std.specs.Prelude.{◌≡◌, ◌+◌, ◌≤◌, length};
 ghost use Rattle.line.specs.Lists.{placed};
 
@@ -10,9 +10,5 @@ pub(crate) fn write(list: &mut [u64], at: usize, numbers: &[u64])
     requires { at + length numbers.now ≤ length list.old }
     ensures { list.new ≡ placed at numbers.now list.old }
 {
-    let mut i = 0;
-    while i < numbers.len() {
-        list[at + i] = numbers[i];
-        i += 1;
-    }
+    list[at..at + numbers.len()].copy_from_slice(numbers);
 }

@@ -1,86 +1,39 @@
 // `reader::read` for C.
-ghost use Rattle.std.specs.Prelude.{◌≡◌, cond, ◌≤◌, ◌+◌, length};
+ghost use Rattle.std.specs.Prelude.{◌≡◌, ◌≤◌, ◌+◌, length};
+ghost use Rattle.message.specs.Reading.{reason_number};
 ghost use Rattle.line.specs.Lists.{written, placed};
-ghost use Rattle.line.specs.Read.{value_numbers, number_numbers, status_numbers, type_numbers, message_numbers, refusal_numbers, read_return, read_list};
+ghost use Rattle.line.specs.Read.{value_numbers, number_numbers, message_numbers, refusal_numbers, read_return, read_list};
 
 use crate::lists;
-use message::{Answer, Message, NumberValue, StatusValue, TypeValue};
+use message::{Message, Refusal, Value};
 
-// 1 for a value that is there, 0 for one that is not.
-fn flag(there: bool) -> u64
-    ensures { result ≡ cond there 1 0 }
-{
-    if there { 1 } else { 0 }
-}
-
-// Writes the five numbers of a value to the places from `at` on.
-fn write_value(
-    list: &mut [u64],
-    at: usize,
-    there: bool,
-    place: usize,
-    bytes: usize,
-    meaning: u32,
-    named: u32,
-)
+// Writes the five numbers of a value to the places from `at` on: what it means is told as a number, with the number that it names, if any.
+fn write_value<M>(list: &mut [u64], at: usize, value: &Value<M>, meaning: u32, named: u32)
     requires { at + 5 ≤ length list.old }
-    ensures { list.new ≡ placed at (value_numbers there place bytes meaning named) list.old }
+    ensures { list.new ≡ placed at (value_numbers value.now.there value.now.place value.now.length meaning named) list.old }
 {
     let numbers = [
-        flag(there),
-        place as u64,
-        bytes as u64,
-        meaning as u64,
-        named as u64,
+        u64::from(value.there),
+        value.place as u64,
+        value.length as u64,
+        u64::from(meaning),
+        u64::from(named),
     ];
     lists::write(list, at, &numbers);
 }
 
-fn write_number(list: &mut [u64], at: usize, value: NumberValue)
+#[tactic(auto, unfolding(crate::specs::Read::number_numbers))]
+fn write_number(list: &mut [u64], at: usize, value: Value<Option<u32>>)
     requires { at + 5 ≤ length list.old }
     ensures { list.new ≡ placed at (number_numbers value) list.old }
 {
-    let number = value.number;
+    let number = value.meaning;
     write_value(
         list,
         at,
-        value.there,
-        value.place,
-        value.length,
-        number.flag(),
-        number.named(),
-    );
-}
-
-fn write_status(list: &mut [u64], at: usize, value: StatusValue)
-    requires { at + 5 ≤ length list.old }
-    ensures { list.new ≡ placed at (status_numbers value) list.old }
-{
-    let status = value.status;
-    write_value(
-        list,
-        at,
-        value.there,
-        value.place,
-        value.length,
-        status.number(),
-        0,
-    );
-}
-
-fn write_type(list: &mut [u64], at: usize, value: TypeValue)
-    requires { at + 5 ≤ length list.old }
-    ensures { list.new ≡ placed at (type_numbers value) list.old }
-{
-    let advice = value.advice;
-    write_value(
-        list,
-        at,
-        value.there,
-        value.place,
-        value.length,
-        advice.number(),
-        0,
+        &value,
+        u32::from(number.is_some()),
+        number.unwrap_or(0),
     );
 }
 
@@ -89,24 +42,26 @@ fn write_message(list: &mut [u64], message: Message)
     requires { 28 ≤ length list.old }
     ensures { list.new ≡ written (message_numbers message) list.old }
 {
-    let kind = message.kind;
-    let head = [0, 0, kind.number() as u64];
+    let head = [0, 0, u64::from(u32::from(message.kind))];
     lists::write(list, 0, &head);
-    write_status(list, 3, message.status);
+    let status = u32::from(message.status.meaning);
+    write_value(list, 3, &message.status, status, 0);
     write_number(list, 8, message.id);
     write_number(list, 13, message.in_response_to);
     write_number(list, 18, message.in_relation_to);
-    write_type(list, 23, message.advisory_type);
+    let advice = u32::from(message.advisory_type.meaning);
+    write_value(list, 23, &message.advisory_type, advice, 0);
 }
 
 // Writes a refusal to the first 28 places.
-fn write_refusal(list: &mut [u64], number: u32, place: usize)
+#[tactic(auto, unfolding(crate::specs::Read::refusal_numbers))]
+fn write_refusal(list: &mut [u64], refusal: Refusal)
     requires { 28 ≤ length list.old }
-    ensures { list.new ≡ written (refusal_numbers number place) list.old }
+    ensures { list.new ≡ written (refusal_numbers (reason_number refusal.reason) refusal.place) list.old }
 {
     let mut numbers = [0; 28];
-    numbers[0] = number as u64;
-    numbers[1] = place as u64;
+    numbers[0] = u64::from(u32::from(refusal.reason));
+    numbers[1] = refusal.place as u64;
     lists::write(list, 0, &numbers);
 }
 
@@ -119,10 +74,9 @@ pub extern "C" fn ali_read(message: &[u8], answer: &mut [u64]) -> u32
     if answer.len() < lists::PLACES {
         return 3;
     }
-    let said = reader::read(message);
-    match said {
-        Answer::Read(read) => write_message(answer, read),
-        Answer::Refused(number, place) => write_refusal(answer, number, place),
+    match reader::read(message) {
+        Ok(read) => write_message(answer, read),
+        Err(refusal) => write_refusal(answer, refusal),
     }
     0
 }

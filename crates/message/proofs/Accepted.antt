@@ -3,19 +3,18 @@
 use Prim.Native.Nat.{ℕ, suc, ◌+◌, ◌<◌, ◌≤◌}
 use mathlib.Core.Path.{◌≡◌, refl, sym, ◌∙◌, ap, subst}
 use mathlib.Core.Logic.{◌⊎◌, ⊎_elim}
-use mathlib.Core.Bool.{Bool, true, false, cond, true≢false}
+use mathlib.Core.Bool.{false, true≢false}
 use mathlib.Core.List.{List, [], ◌∷◌, ◌++◌}
 use native.Mathlib.Omega.{arith}
 use native.Mathlib.Numerals.{add-one}
 use lib.ListN.{length, take, drop, take-append-drop, drop_of_length-le}
 use lib.Seq.{take-length, take_all, take-suc, drop-cons}
-use lib.Dec.{ltb, eqb}
-use borrow.Author.Tests.{ltb-false}
+use Rattle.std.proofs.lemmas.Bool.Decides.{nat_tests}
 use Rattle.message.specs.Class.{class_of}
-use Rattle.message.specs.Reading.{Reading, ◌>>=◌, byte_at}
+use Rattle.message.specs.Reading.{Reading, byte_at}
 use Rattle.message.specs.Reading.Reading.{whole, refused}
 use Rattle.message.specs.Limits.{Limits}
-use Rattle.message.specs.Elements.{Element, declared_of, root_at, document_at}
+use Rattle.message.specs.Elements.{Element, document_at}
 use Rattle.message.specs.Readable.{Readable, Continues, a_comment, MarkupMayBegin}
 use Rattle.message.specs.Nine.{NineAt, dead as dead-there, unfinished}
 use Rattle.message.proofs.Automaton.{Ground, first, behind, State, ground, Next, dead, goes, step, rest, steps}
@@ -49,12 +48,7 @@ alive_first st u v end q = go (steps st u) refl
 
 pub whole_fits : (l : Limits) (s : List ℕ) (root : Element) → document_at class_of s l 0 ≡ whole root → length s ≤ l.bytes
 unfolding document_at
-whole_fits l s root q = go (ltb l.bytes (length s)) refl q
-  where
-    go : (t : Bool) → ltb l.bytes (length s) ≡ t
-        → cond t (refused 8 0) (cond (eqb 0 0) (declared_of class_of s) (whole 0) >>= root_at class_of s l) ≡ whole root → length s ≤ l.bytes
-    go true e r = let z : ◌≡◌ {A = ℕ} 0 1 = cc in absurd (omega arith)
-    go false e r = ltb-false l.bytes (length s) e
+whole_fits l s root q = grind (arith, nat_tests)
 
 pub readable_ends : (s : List ℕ) → Readable s → steps (ground first) s ≡ goes (ground behind)
 readable_ends s readable =

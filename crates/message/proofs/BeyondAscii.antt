@@ -5,13 +5,14 @@ use mathlib.Core.Bool.{true, cond}
 use mathlib.Core.List.{List}
 use native.Mathlib.Omega.{arith}
 use lib.Dec.{eqb}
-use borrow.Author.Tests.{eqb-false}
+use Rattle.std.proofs.lemmas.Bool.{cond_both}
+use Rattle.std.proofs.lemmas.Bool.Decides.{nat_tests}
 use Rattle.message.specs.Class.{between}
 use Rattle.message.specs.Reading.{byte_at, has, one}
 use Rattle.message.specs.Characters.{Character, later, second_of_three, third_of_three, second_of_four, joined, two_at, three_at, last_two_at, four_at, long_at}
 use Rattle.message.specs.Text.{special_at}
 use Rattle.message.specs.Meanings.{OthersBeyondAscii}
-use Rattle.message.proofs.Laws.{cond_cases, cond_false, has_between, one_between}
+use Rattle.message.proofs.Laws.{cond_false, has_between, one_between}
 use Rattle.message.proofs.Progress.{Every, every_on}
 
 abbrev Beyond : Character → Type 0
@@ -19,14 +20,10 @@ Beyond c = 128 ≤ c.code
 
 -- what the first two bytes give of three, and of four: after the least first byte the second is not the least
 pub three_lead : (lead second : ℕ) → 224 ≤ lead → cond (eqb lead 224) 160 128 ≤ second → 32 ≤ joined (lead - 224) second
-three_lead lead second low =
-    cond_cases (λ (least : ℕ). least ≤ second → 32 ≤ joined (lead - 224) second) (eqb lead 224)
-    (λ t h. omega arith) (λ t h. let above = eqb-false lead 224 t in omega arith)
+three_lead lead second low = grind (arith, nat_tests)
 
 pub four_lead : (lead second : ℕ) → 240 ≤ lead → cond (eqb lead 240) 144 128 ≤ second → 16 ≤ joined (lead - 240) second
-four_lead lead second low =
-    cond_cases (λ (least : ℕ). least ≤ second → 16 ≤ joined (lead - 240) second) (eqb lead 240)
-    (λ t h. omega arith) (λ t h. let above = eqb-false lead 240 t in omega arith)
+four_lead lead second low = grind (arith, nat_tests)
 
 module _ (s : List ℕ) (at : ℕ) where
   two_beyond : has (between 194 223) s at ≡ true → Every Beyond (two_at s at)
@@ -45,7 +42,7 @@ module _ (s : List ℕ) (at : ℕ) where
 
   last_beyond : (n p : ℕ) → 16 ≤ n → Every Beyond (last_two_at n s p)
   unfolding last_two_at
-  last_beyond n p enough = every_on Beyond _ (one later s p) (λ k q. every_on Beyond _ (one later s k) (λ e r. omega arith))
+  last_beyond n p enough = grind (arith, nat_tests)
 
   four_beyond : Every Beyond (four_at s at)
   unfolding four_at
@@ -59,8 +56,8 @@ module _ (s : List ℕ) (at : ℕ) where
   long_beyond : Every Beyond (long_at s at)
   unfolding long_at
   long_beyond =
-      cond_cases (Every Beyond) (has (between 194 223) s at) two_beyond (λ no.
-      cond_cases (Every Beyond) (has (between 224 239) s at) three_beyond (λ none. four_beyond))
+      cond_both (has (between 194 223) s at) _ _ (Every Beyond) two_beyond (λ no.
+      cond_both (has (between 224 239) s at) _ _ (Every Beyond) three_beyond (λ none. four_beyond))
 
 pub others_beyond_ascii : OthersBeyondAscii
 unfolding special_at

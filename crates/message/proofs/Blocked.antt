@@ -1,13 +1,13 @@
 -- The machine does not go past a place where a refusal is due. Assumes nothing.
 use Prim.Native.Nat.{ℕ, ◌+◌, ◌-◌, ◌<◌}
-use mathlib.Core.Path.{◌≡◌, refl, sym, ◌∙◌, ap, subst}
+use mathlib.Core.Path.{◌≡◌, sym, ◌∙◌, ap, subst}
 use mathlib.Core.Logic.{⊎_elim}
-use mathlib.Core.Bool.{true, false, not, true≢false}
+use mathlib.Core.Bool.{true, false, true≢false}
 use mathlib.Core.List.{List, ◌++◌}
 use native.Mathlib.Omega.{arith}
 use lib.ListN.{length, take}
 use borrow.Author.Tests.{lt-ltb, le-leb}
-use Rattle.laws.proofs.Tests.{or_last}
+use Rattle.std.proofs.lemmas.Bool.Decides.{nat_tests}
 use Rattle.message.specs.Class.{class_of, is_start, is_name}
 use Rattle.message.specs.Reading.{is, byte_at, has, ends}
 use Rattle.message.specs.Limits.{link_limits}
@@ -15,9 +15,9 @@ use Rattle.message.specs.Readable.{Continues, MarkupMayBegin, end_tags, Open, Pa
 use Rattle.message.specs.Nine.{dead, unfinished}
 use Rattle.message.specs.Due.{Opening, Due, nine, level, attribute, opening, long}
 use Rattle.message.proofs.Laws.{or_true}
-use Rattle.message.proofs.Automaton.{Ground, first, before, behind, inside, State, ground, in_tag, goes, step, steps}
+use Rattle.message.proofs.Automaton.{Ground, first, behind, State, ground, in_tag, goes, step, steps}
 use Rattle.message.proofs.Dues as dues
-use Rattle.message.proofs.Dues.{is_behind, depth, too_deep, due, Here}
+use Rattle.message.proofs.Dues.{depth, too_deep, due, Here}
 use Rattle.message.proofs.Accepted.{steps_from, readable_ends, goes_continues, may_ground}
 use Rattle.message.proofs.Sound.{sane_at}
 use Rattle.message.proofs.Inverse.{open_depth}
@@ -45,17 +45,9 @@ module _ (s : List ℕ) where
             ∙ open-there.many,
       )
 
-  not_behind : (g : Ground) → depth g ≡ 32 → not (is_behind g) ≡ true
-  not_behind first e = refl
-  not_behind before e = refl
-  not_behind behind e = absurd (omega arith)
-  not_behind (inside b v o) e = refl
-
   level_due : (g : Ground) (p : ℕ) → depth g ≡ 32 → has (is 60) s p ≡ true → has (is_start class_of) s (p + 1) ≡ true
       → due link_limits s (ground g) p ≡ true
-  level_due g p levels tag start =
-      let far : too_deep link_limits s g p ≡ true = rw (le-leb 32 (depth g) (omega arith), not_behind g levels, start) in
-      rw tag (or_last (dues.opening link_limits s g p) far)
+  level_due g p levels tag start = grind (arith, nat_tests)
 
   opening_due : (g : Ground) (p : ℕ) → has (is 60) s p ≡ true → dues.opening link_limits s g p ≡ true → due link_limits s (ground g) p ≡ true
   opening_due g p tag h = rw tag (sym (or_true (too_deep link_limits s g p) h))

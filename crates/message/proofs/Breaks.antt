@@ -5,12 +5,14 @@ use mathlib.Core.Logic.{⊎_elim}
 use mathlib.Core.Bool.{Bool, true, false, ◌&&◌, ◌||◌}
 use mathlib.Core.List.{List}
 use lib.Dec.{eqb}
-use Rattle.laws.proofs.Tests.{either, neither}
+use Rattle.std.proofs.lemmas.Bool.{and_parts, cond_both, or_cases, or_parts}
+use Rattle.std.proofs.lemmas.Bool.Decides.{nat_tests}
+use native.Mathlib.Omega.{arith}
 use Rattle.message.specs.Reading.{is, has}
 use Rattle.message.specs.Values.{is_break, line_end}
 use Rattle.message.specs.Meanings.{Break, NoBreak}
 use Rattle.message.specs.Meanings.Break.{tab, feed, return}
-use Rattle.message.proofs.Laws.{cond_cases, and_true, both_first, both_second, has_or}
+use Rattle.message.proofs.Laws.{and_true, has_or}
 use Rattle.message.proofs.Runs.{has_known}
 
 module _ (s : List ℕ) (at : ℕ) where
@@ -34,24 +36,22 @@ module _ (s : List ℕ) (at : ℕ) where
 
   pub is_no_break : has is_break s at ≡ false → NoBreak s at
   is_no_break h =
-      let x = neither (has (is 9) s at) (has (is 10) s at || has (is 13) s at) (sym breaks ∙ h) in
-      let y = neither (has (is 10) s at) (has (is 13) s at) x.1 in
+      let x = or_parts (has (is 9) s at) (has (is 10) s at || has (is 13) s at) (sym breaks ∙ h) in
+      let y = or_parts (has (is 10) s at) (has (is 13) s at) x.1 in
       record { no_tab = x.0; no_feed = y.0; no_return = y.1 }
 
   module _ (P : ℕ → Type 0) (paired : has (is 13) s at ≡ true → has (is 10) s (at + 1) ≡ true → P (at + 2)) where
     pub break_cases : (Break s at → P (at + 1)) → has is_break s at ≡ true → P (line_end s at)
     break_cases alone h =
-        cond_cases P (has (is 13) s at && has (is 10) s (at + 1))
-        (λ t. paired (both_first (has (is 13) s at) (has (is 10) s (at + 1)) t) (both_second (has (is 13) s at) (has (is 10) s (at + 1)) t))
+        cond_both (has (is 13) s at && has (is 10) s (at + 1)) _ _ P
+        (λ t. paired (and_parts (has (is 13) s at) (has (is 10) s (at + 1)) t).0 (and_parts (has (is 13) s at) (has (is 10) s (at + 1)) t).1)
         (λ t. alone (by_itself t))
       where
         by_itself : (has (is 13) s at && has (is 10) s (at + 1)) ≡ false → Break s at
         by_itself t =
             ⊎_elim tab (λ k.
-            ⊎_elim feed (λ r. return r (and_true (has (is 10) s (at + 1)) r ∙ t)) (either (has (is 10) s at) (has (is 13) s at) k))
-            (either (has (is 9) s at) (has (is 10) s at || has (is 13) s at) (sym breaks ∙ h))
+            ⊎_elim feed (λ r. return r (and_true (has (is 10) s (at + 1)) r ∙ t)) (or_cases (has (is 10) s at) (has (is 13) s at) k))
+            (or_cases (has (is 9) s at) (has (is 10) s at || has (is 13) s at) (sym breaks ∙ h))
 
     pub return_cases : (has (is 10) s (at + 1) ≡ false → P (at + 1)) → has (is 13) s at ≡ true → P (line_end s at)
-    return_cases alone h =
-        cond_cases P (has (is 13) s at && has (is 10) s (at + 1))
-        (λ t. paired h (both_second (has (is 13) s at) (has (is 10) s (at + 1)) t)) (λ t. alone (and_true (has (is 10) s (at + 1)) h ∙ t))
+    return_cases alone h = grind (arith, nat_tests)

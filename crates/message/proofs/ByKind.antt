@@ -2,7 +2,6 @@
 use Prim.Native.Nat.{ℕ}
 use mathlib.Core.Path.{◌≡◌, refl, sym, ◌∙◌, ap, subst}
 use mathlib.Core.List.{List}
-use native.Mathlib.Omega.{arith}
 use Rattle.message.specs.Class.{class_of}
 use Rattle.message.specs.Reading.{Reading}
 use Rattle.message.specs.Reading.Reading.{whole, refused}
@@ -14,7 +13,7 @@ use Rattle.message.proofs.Seven.{Decided, read, thirteen, decided}
 
 -- what that says of a refusal
 decided_number : {A : Type 0} {a : Reading A} (n p : ℕ) → Decided a → a ≡ refused n p → (n ≡ 13) × (p ≡ 0)
-decided_number n p (read x) q = let z : ◌≡◌ {A = ℕ} 0 1 = cc in absurd (omega arith)
+decided_number n p (read x) q = cc
 decided_number n p thirteen q = let number : 13 ≡ n = cc in let place : 0 ≡ p = cc in (sym number, sym place)
 
 module _ (l : Limits) (s : List ℕ) where

@@ -2,22 +2,23 @@
 use Prim.Native.Nat.{ℕ}
 use mathlib.Core.Path.{◌≡◌, refl, sym, ◌∙◌, ap, subst}
 use mathlib.Core.Logic.{⊎_elim}
-use mathlib.Core.Bool.{Bool, true, false, not, ◌||◌}
+use mathlib.Core.Bool.{Bool, true, false, ◌||◌}
 use mathlib.Core.List.{List}
 use native.Mathlib.Omega.{arith}
 use lib.Dec.{eqb}
-use borrow.Author.Tests.{eqb-true, ne_eqb, leb-true, le-leb, not-true}
-use Rattle.laws.proofs.Tests.{true_false, either}
+use borrow.Author.Tests.{eqb-true, ne_eqb, leb-true, le-leb}
+use Rattle.std.proofs.lemmas.Bool.{both_ways, or_cases}
+use Rattle.std.proofs.lemmas.Bool.Decides.{nat_tests}
 use Rattle.message.specs.Class.{class_of, is_start, is_name, is_space, is_text, is_plain, is_plain_note}
 use Rattle.message.specs.Reading.{is, byte_at, has, is_quote}
 use Rattle.message.specs.Elements.{ends_tag}
-use Rattle.message.proofs.Laws.{has_in, has_lt, has_byte, or_true, both_second}
+use Rattle.message.proofs.Laws.{has_in, has_lt, has_byte, or_true}
 
 -- ---- any test
 
 -- a byte that passes a test is none that fails it
 pub other_than : (test : ℕ → Bool) (b : ℕ) → test b ≡ false → (x : ℕ) → test x ≡ true → is b x ≡ false
-other_than test b fails x passes = ne_eqb x b (λ e. true_false passes (ap test e ∙ fails))
+other_than test b fails x passes = ne_eqb x b (λ e. both_ways _ (ap test e ∙ fails) passes)
 
 pub has_other : (test : ℕ → Bool) (b : ℕ) → test b ≡ false → (s : List ℕ) (i : ℕ) → has test s i ≡ true → has (is b) s i ≡ false
 has_other test b fails s i h = has_in (is b) s i (has_lt test s i h) ∙ other_than test b fails (byte_at s i) (has_byte test s i h)
@@ -28,7 +29,7 @@ has_fails f g fails s i h = has_in g s i (has_lt f s i h) ∙ fails (byte_at s i
 
 -- what holds of two bytes holds of each that is one of them
 of_two : (P : ℕ → Type 0) (b c : ℕ) → P b → P c → (x : ℕ) → (eqb x b || eqb x c) ≡ true → P x
-of_two P b c p q x h = ⊎_elim (λ e. subst P (sym (eqb-true x b e)) p) (λ e. subst P (sym (eqb-true x c e)) q) (either (eqb x b) (eqb x c) h)
+of_two P b c p q x h = ⊎_elim (λ e. subst P (sym (eqb-true x b e)) p) (λ e. subst P (sym (eqb-true x c e)) q) (or_cases (eqb x b) (eqb x c) h)
 
 -- ---- bytes that are no white space
 
@@ -112,9 +113,7 @@ letter_not = other_than is_letter
 
 pub letter_solid : (x : ℕ) → Letter x → is_space class_of x ≡ false
 unfolding class_of
-letter_solid x h =
-    ⊎_elim (λ e. ne_eqb (class_of x) 3 (λ three. omega (arith, leb-true 4 (class_of x) e))) (λ e. rw (eqb-true x 58 e))
-    (either (is_name class_of x) (eqb x 58) h)
+letter_solid x h = grind (arith, nat_tests)
 
 -- ---- quotation marks
 
@@ -144,4 +143,4 @@ pub plain_text : (x : ℕ) → is_plain class_of x ≡ true → is_text class_of
 plain_text x h = le-leb 1 (class_of x) (omega (arith, leb-true 2 (class_of x) h))
 
 pub note_no_hyphen : (x : ℕ) → is_plain_note class_of x ≡ true → is 45 x ≡ false
-note_no_hyphen x h = not-true (is 45 x) (both_second (is_text class_of x || (is 60 x || is 38 x)) (not (is 45 x)) h)
+note_no_hyphen x h = grind (arith, nat_tests)

@@ -5,8 +5,8 @@ use mathlib.Core.Path.{◌≡◌, refl, sym, ◌∙◌, ap, subst}
 use mathlib.Core.Logic.{◌⊎◌, inl, inr, ⊎_elim}
 use mathlib.Core.Bool.{Bool, true, false, cond}
 use mathlib.Core.List.{List, ◌∷◌}
+use Rattle.std.proofs.lemmas.Bool.{both_ways, false_from_ne_true}
 use Rattle.laws.specs.Bytes.{same_bytes}
-use Rattle.laws.proofs.Tests.{true_false, never}
 use Rattle.laws.proofs.Tails.{same_refl, same_eq}
 use Rattle.message.specs.Class.{class_of, is_start, is_space}
 use Rattle.message.specs.Reading.{Reading, ◌>>=◌, has, blanks}
@@ -28,7 +28,7 @@ use Rattle.message.proofs.Shapes.{name_is, name_same}
 
 -- no name begins at the end of a tag
 no_name : (s : List ℕ) (at : ℕ) → has ends_tag s at ≡ true → has (is_start class_of) s at ≡ true → ⊥
-no_name s at end begin = true_false begin (has_fails ends_tag (is_start class_of) end_no_start s at end)
+no_name s at end begin = both_ways _ (has_fails ends_tag (is_start class_of) end_no_start s at end) begin
 
 module _ (s : List ℕ) (l : Limits) where
   abbrev place : ℕ → ℕ
@@ -103,7 +103,7 @@ module _ (s : List ℕ) (l : Limits) where
             → cond b (whole t.value) (attribute_called class_of l s fuel w (t.value.to + 1)) ≡ whole v → Carries s w at v
         go t further true same q =
             subst (Carries s w at) (whole_same q) (this (stands t) (same_eq (part s (place at) t.name.end) w same))
-        go t further false same q = later (stands t) (λ e. true_false (ap (λ (u : List ℕ). same_bytes u w) e ∙ same_refl w) same) (further q)
+        go t further false same q = later (stands t) (λ e. both_ways _ same (ap (λ (u : List ℕ). same_bytes u w) e ∙ same_refl w)) (further q)
 
     -- and what stands there is found
     turn_same : {fuel : ℕ} {seen : List (List ℕ)} {at to stop : ℕ} (a : AttributeStands s at to) (t : Turn fuel seen at stop)
@@ -138,5 +138,5 @@ module _ (s : List ℕ) (l : Limits) where
             let named : part s (place at) a.name.end ≡ part s (place at) t.name.end =
             ap (λ (n : Named). part s (place at) n.end) x.0 in
             let differs : same_bytes (part s (place at) t.name.end) w ≡ false =
-            never _ (λ e. other (named ∙ same_eq (part s (place at) t.name.end) w e)) in
+            false_from_ne_true _ (λ e. other (named ∙ same_eq (part s (place at) t.name.end) w e)) in
             turn_called fuel seen at stop t ∙ (sym (cond_false _ differs) ∙ further (subst (λ (i : ℕ). Carries s w i v) x.2 c))

@@ -7,12 +7,13 @@ use native.Mathlib.Omega.{arith}
 use lib.ListN.{length, take}
 use lib.Dec.{leb}
 use borrow.Author.Tests.{ltb-true}
+use Rattle.std.proofs.lemmas.Bool.{and_parts}
 use Rattle.message.specs.Class.{class_of, is_start, is_name}
 use Rattle.message.specs.Reading.{is, byte_at, has, ends}
 use Rattle.message.specs.Limits.{link_limits}
 use Rattle.message.specs.Readable.{Continues, end_tags, Open, TagStands}
 use Rattle.message.specs.Due.{Due, nine, level, attribute, opening, long}
-use Rattle.message.proofs.Laws.{has_lt, has_byte, both_second, ends_stop}
+use Rattle.message.proofs.Laws.{has_lt, has_byte, ends_stop}
 use Rattle.message.proofs.Past.{at_start}
 use Rattle.message.proofs.Bytes.{other_than, start_no_space, slash_no_start, greater_no_start}
 use Rattle.message.proofs.Automaton.{Ground, first, before, behind, inside, State, ground, opened, in_tag, goes, step}
@@ -61,7 +62,7 @@ module _ (s : List ℕ) where
   cause_due st p n here (cut out more) = nine p (cut_nine link_limits s st p here out more)
   cause_due st p n here (deep g q tag far levels) =
       level p (ground_open g p (subst (λ (x : State). Here s x p) q here) levels) tag
-      (both_second (leb 32 (depth g) && not (is_behind g)) (has (is_start class_of) s (p + 1)) far)
+      (and_parts (leb 32 (depth g) && not (is_behind g)) (has (is_start class_of) s (p + 1)) far).1
   cause_due st p n here (crowded m seen o q start many crowd) =
       subst (Due s 11) (sym crowd.begins)
       (attribute crowd.at crowd.to (marked_may link_limits s crowd.at crowd.marked)

@@ -1,15 +1,12 @@
 -- The table of classes gives each byte the class that document 01 gives it, and what is no byte has none. Assumes nothing.
 use Prim.Native.Nat.{ℕ, zero, suc, ◌+◌, ◌<◌}
 use mathlib.Core.Path.{◌≡◌, refl, ◌∙◌, ap, fun_ext}
-use mathlib.Core.Bool.{false}
 use native.Mathlib.Omega.{arith}
 use native.Mathlib.Nat.{zero-add, add-zero, add-suc, suc-add}
 use native.Mathlib.Decide.{dec_lt}
 use lib.ListN.{length, get_or, get_or-eq_default}
-use lib.Dec.{eqb}
-use borrow.Author.Tests.{ne_eqb}
+use Rattle.std.proofs.lemmas.Bool.Decides.{nat_tests}
 use Rattle.message.specs.Class.{class_of, classes_from, class_table, class_in}
-use Rattle.message.proofs.Laws.{between_above}
 
 classes_length : (b n : ℕ) → length (classes_from b n) ≡ n
 classes_length b zero = refl
@@ -21,26 +18,10 @@ classes_at b zero k h = absurd (omega arith)
 classes_at b (suc n) zero h = rw add-zero
 classes_at b (suc n) (suc k) h = classes_at (suc b) n k (omega arith) ∙ rw (add-suc, suc-add)
 
-other : (k x : ℕ) → k < x → eqb x k ≡ false
-other k x h = ne_eqb x k (λ e. omega arith)
-
 -- no class above the ASCII bytes
 none_above : (x : ℕ) → 127 < x → 0 ≡ class_of x
 unfolding class_of
-none_above x h =
-    rw (
-      between_above 65 90 x (omega arith),
-      between_above 97 122 x (omega arith),
-      other 95 x (omega arith),
-      between_above 48 57 x (omega arith),
-      other 45 x (omega arith),
-      other 46 x (omega arith),
-      other 9 x (omega arith),
-      other 10 x (omega arith),
-      other 13 x (omega arith),
-      other 32 x (omega arith),
-      between_above 33 127 x h,
-    )
+none_above x h = grind (arith, nat_tests)
 
 pub table_is : class_in class_table ≡ class_of
 table_is = fun_ext go

@@ -5,7 +5,6 @@ use mathlib.Core.Bool.{true}
 use mathlib.Core.List.{List}
 use native.Mathlib.Omega.{arith}
 use lib.ListN.{length}
-use Rattle.laws.proofs.Tests.{true_false}
 use Rattle.message.specs.Class.{class_of}
 use Rattle.message.specs.Reading.{Reading, is_quote, is, has, one, byte_at, equals_at, opened_at}
 use Rattle.message.specs.Reading.Reading.{whole}
@@ -75,7 +74,7 @@ module _ (s : List ℕ) where
   tag_ends b n at =
       end_cases s b n at TagEnds
       (λ t u. record { some = omega arith; closed = back (at + 1 + 1 - 1) (at + 1) 62 (omega arith) u; slash = λ e. back (at + 1 + 1 - 2) at 47 (omega arith) t })
-      (λ u. record { some = omega arith; closed = back (at + 1 - 1) at 62 (omega arith) u; slash = λ e. absurd (true_false e refl) })
+      (λ u. record { some = omega arith; closed = back (at + 1 - 1) at 62 (omega arith) u; slash = λ e. cc })
     where
       back : (i at x : ℕ) → i ≡ at → has (is x) s at ≡ true → byte_at s i ≡ x
       back i at x h t = ap (byte_at s) h ∙ byte_is x s at t

@@ -116,7 +116,7 @@ module _ (s : List ℕ) where
   -- ---- a refusal is the first that is due
 
   tag_ground : {m : List ℕ} {seen o : List (List ℕ)} {g : Ground} → ground g ≡ in_tag true m seen o → ⊥
-  tag_ground e = let z : ◌≡◌ {A = ℕ} 0 1 = cc in omega arith
+  tag_ground e = cc
 
   ranks : (st : State) (p n : ℕ) → Here s st p → Cause link_limits s st p n → (n' q : ℕ) → q ≡ p → Due s n' q → rank n ≤ rank n'
   ranks st p n here (dies within dying) n' q same d = omega arith

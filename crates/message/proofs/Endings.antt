@@ -8,13 +8,13 @@ use native.Mathlib.Decide.{dec_lt}
 use lib.ListN.{length, length-append}
 use lib.Dec.{ltb, leb, eqb}
 use borrow.Author.Tests.{eq-eqb, eqb-true, eqb-false, ltb-true, ltb-false, leb-true, le-leb}
+use Rattle.std.proofs.lemmas.Bool.{cond_both}
 use Rattle.message.specs.Class.{class_of, is_space}
 use Rattle.message.specs.Reading.{is}
 use Rattle.message.specs.Characters.{legal, is_digit, digit_of}
 use Rattle.message.specs.Elements.{is_known}
 use Rattle.message.specs.Readable.{end_tags}
 use Rattle.message.proofs.Legal.{legal_low, legal_over}
-use Rattle.message.proofs.Laws.{cond_cases}
 use Rattle.message.proofs.Parts.{other_length}
 use Rattle.message.proofs.Automaton.{Test, exact, exactly, second_three, third_three, Ground, first, before, behind, inside, State, ground, opened, expect, blanks, declared, version_quote, encoding_quote, versioned, encoding_name, note, second, ampersand, ampersand_a, hash, first_digit, number, name, colon, in_tag, slash, attribute, attribute_colon, quote, value, close, goes, expecting, after, closing, declared_end, base, step, steps}
 use Rattle.message.proofs.Ways.{steps_on, numbered_small}
@@ -138,7 +138,7 @@ not_legal n low high e = (
 )
   where
     clash : legal n ≡ true → ⊥
-    clash q = let z : ◌≡◌ {A = ℕ} 0 1 = cc in omega arith
+    clash q = cc
 
 module _ (k : State) (u : List ℕ) where
   -- with one more digit
@@ -182,9 +182,9 @@ module _ (k : State) (u : List ℕ) (h : Ends k u) where
 
   ends_number : (hex : Bool) (n : ℕ) (small : leb n 1114111 ≡ true) → Ends (number hex n small k) (finish_number n u)
   ends_number hex n small =
-      cond_cases (Ends (number hex n small k)) (legal n) (λ e. ends_legal k u hex n small e h)
-      (λ e. cond_cases (Ends (number hex n small k)) (eqb n 0) (λ z. ends_nine hex n small (eqb-true n 0 z))
-      (λ z. cond_cases (Ends (number hex n small k)) (ltb n 32) (λ low. ends_two hex n small (omega (arith, nonzero z)) (ltb-true n 32 low))
+      cond_both (legal n) _ _ (Ends (number hex n small k)) (λ e. ends_legal k u hex n small e h)
+      (λ e. cond_both (eqb n 0) _ _ (Ends (number hex n small k)) (λ z. ends_nine hex n small (eqb-true n 0 z))
+      (λ z. cond_both (ltb n 32) _ _ (Ends (number hex n small k)) (λ low. ends_two hex n small (omega (arith, nonzero z)) (ltb-true n 32 low))
       (λ low. let far = not_legal n (ltb-false n 32 low) (leb-true n 1114111 small) e in ends_one hex n small far.0 far.1)))
     where
       nonzero : eqb n 0 ≡ false → 1 ≤ n

@@ -8,7 +8,6 @@ use mathlib.Core.List.{List, []}
 use native.Mathlib.Omega.{arith}
 use lib.ListN.{length}
 use lib.Dec.{ltb, eqb}
-use Rattle.laws.proofs.Tests.{true_false}
 use Rattle.message.specs.Markup.{around_at}
 use Rattle.message.specs.Class.{is_start}
 use Rattle.message.specs.Reading.{Reading, ◌>>=◌, is_whole, is, has, one}
@@ -28,7 +27,7 @@ then_whole next (refused n p) y q = unread q
 
 pub whole_is : {A : Type 0} (r : Reading A) → is_whole r ≡ true → (x : A) × (r ≡ whole x)
 whole_is (whole x) e = (x, refl)
-whole_is (refused n p) e = absurd (true_false e refl)
+whole_is (refused n p) e = cc
 
 -- two readings that go on alike after what was read
 pub then_same : {A B : Type 0} (next next' : A → Reading B) (a : Reading A) → ((x : A) → a ≡ whole x → next x ≡ next' x)

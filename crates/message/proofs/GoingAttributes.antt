@@ -7,7 +7,7 @@ use native.Mathlib.Omega.{arith}
 use lib.ListN.{length}
 use lib.Dec.{ltb, leb}
 use borrow.Author.Tests.{lt-leb, ltb-true, ltb-false}
-use Rattle.laws.proofs.Tests.{neither}
+use Rattle.std.proofs.lemmas.Bool.{cond_both, or_parts}
 use Rattle.message.specs.Class.{class_of, is_start, is_name, is_space}
 use Rattle.message.specs.Reading.{Reading, ◌>>=◌, is, byte_at, has, one, ends, opened_at}
 use Rattle.message.specs.Reading.Reading.{whole, refused}
@@ -16,7 +16,7 @@ use Rattle.message.specs.Text.{value_at}
 use Rattle.message.specs.Limits.{Limits}
 use Rattle.message.specs.Elements.{part, is_known, ends_tag, Quoted, quoted_at, fresh_at, attributes_at}
 use Rattle.message.specs.Readable.{TagStands, of_attribute, first}
-use Rattle.message.proofs.Laws.{cond_cases, has_lt, has_byte, one_yes, one_no, ends_more, ends_stop, ends_from, has_in, fails_byte}
+use Rattle.message.proofs.Laws.{has_lt, has_byte, one_yes, one_no, ends_more, ends_stop, ends_from, has_in, fails_byte}
 use Rattle.message.proofs.Parts.{part_one}
 use Rattle.message.proofs.Bytes.{has_fails, solid_equals, space_no_start, end_no_start, colon_no_name}
 use Rattle.message.proofs.Runs.{ends_fails, byte_is}
@@ -35,7 +35,7 @@ in_tag_seen e = cc
 
 pub attribute_colon_no_tag : {a n : List ℕ} {seen o : List (List ℕ)} {b : Bool} {m : List ℕ} {seen' o' : List (List ℕ)}
     → attribute_colon a n seen o ≡ in_tag b m seen' o' → ⊥
-attribute_colon_no_tag e = let z : ◌≡◌ {A = ℕ} 0 1 = cc in omega arith
+attribute_colon_no_tag e = cc
 
 module _ (l : Limits) (s : List ℕ) where
   module _ (n : List ℕ) (o : List (List ℕ)) where
@@ -97,7 +97,7 @@ module _ (l : Limits) (s : List ℕ) where
       -- Neither white space nor the tag's end stands there: only a name may begin, and only behind white space.
       module _ (Going-on : has ends_tag s p ≡ false) where
         no_end : p < length s → (is 47 (byte_at s p) ≡ false) × (is 62 (byte_at s p) ≡ false)
-        no_end within = neither (is 47 (byte_at s p)) (is 62 (byte_at s p)) (fails_byte ends_tag s p within Going-on)
+        no_end within = or_parts (is 47 (byte_at s p)) (is 62 (byte_at s p)) (fails_byte ends_tag s p within Going-on)
 
         dies_at : (b : Bool) → p < length s → (b && is_start class_of (byte_at s p)) ≡ false → step_in_tag b n seen o (byte_at s p) ≡ dead
         dies_at b within h = rw (solid within, (no_end within).0, (no_end within).1, h)
@@ -154,7 +154,7 @@ module _ (l : Limits) (s : List ℕ) where
             → name_at class_of l.part s p ≡ whole name → NameRead l s (naming seen) p name
             → Outcome l s Fresh (cond (is_known (part s p name.end) seen) (refused 9 name.end) (whole name.end))
         going_fresh_name h free name q read =
-            cond_cases (Outcome l s Fresh) (is_known (part s p name.end) seen)
+            cond_both (is_known (part s p name.end) seen) _ _ (Outcome l s Fresh)
             (λ t. stuck_here l s read.here refl (λ within. behind_does name read within ∙ rw t))
             (λ t. record {
               space = h;
@@ -283,7 +283,7 @@ module _ (l : Limits) (s : List ℕ) where
     unfolding attributes_at
     going_attributes zero seen at enough tagged = acts_stuck l s tagged.acts (λ within. absurd (omega arith))
     going_attributes (suc fuel) seen at enough tagged =
-        cond_cases (Outcome l s EndsAt) (has ends_tag s (ends (is_space class_of) s at)) (λ h. going_end seen at tagged h) (λ h.
+        cond_both (has ends_tag s (ends (is_space class_of) s at)) _ _ (Outcome l s EndsAt) (λ h. going_end seen at tagged h) (λ h.
         outcome_then l s (Fresh seen at tagged h) EndsAt _ (fresh_at class_of s l seen at (ends (is_space class_of) s at))
         (going_fresh seen at tagged h) (λ e q fresh.
         outcome_then l s (λ v. At l s (in_tag false n (part s (ends (is_space class_of) s at) e ∷ seen) o) (v.to + 1)) EndsAt _

@@ -6,12 +6,13 @@ use mathlib.Core.List.{List, [], ◌∷◌, ◌++◌}
 use native.Mathlib.Omega.{arith}
 use lib.ListN.{length}
 use lib.Dec.{leb}
+use Rattle.std.proofs.lemmas.Bool.{cond_both}
 use Rattle.message.specs.Class.{between}
 use Rattle.message.specs.Reading.{is, byte_at, has, one, word_at}
 use Rattle.message.specs.Characters.{Character, later, second_of_three, third_of_three, second_of_four, joined, two_at, three_at, last_two_at, four_at, long_at, is_digit, digit_of, digits_at, closes, numbered_at, stands_at, predefined_at, reference_at}
 use Rattle.message.specs.Text.{special_at}
 use Rattle.message.specs.Limits.{Limits}
-use Rattle.message.proofs.Laws.{cond_cases, has_lt, has_byte, one_yes, fails_byte}
+use Rattle.message.proofs.Laws.{has_lt, has_byte, one_yes, fails_byte}
 use Rattle.message.proofs.Ways.{numbered_small, numbered_great}
 use Rattle.message.proofs.Acting.{Acts, acting, acts_has, acts_stuck, acts_as, acts_only}
 use Rattle.message.proofs.Automaton.{later_test, second_four, third_three, exactly, State, expect, second, ampersand, ampersand_a, hash, first_digit, number, Next, dead, only, expecting, leads, special, base, digit}
@@ -64,10 +65,10 @@ module _ (l : Limits) (s : List ℕ) where
   pub going_long : (k : State) (i : ℕ) → Acts l s (leads k) i → Outcome l s (λ c. At l s k c.end) (long_at s i)
   unfolding long_at
   going_long k i acts =
-      cond_cases (Outcome l s (Behind k)) (has (between 194 223) s i)
+      cond_both (has (between 194 223) s i) _ _ (Outcome l s (Behind k))
       (λ t. going_two k i (acts_has l s acts (between 194 223) t (rw (has_byte (between 194 223) s i t)))) (λ t.
       let no_two : (i < length s → between 194 223 (byte_at s i) ≡ false) = (λ inside. fails_byte (between 194 223) s i inside t) in
-      cond_cases (Outcome l s (Behind k)) (has (between 224 239) s i)
+      cond_both (has (between 224 239) s i) _ _ (Outcome l s (Behind k))
       (λ u.
       going_three k i
       (acts_has l s acts (between 224 239) u (rw (no_two (has_lt (between 224 239) s i u), has_byte (between 224 239) s i u))))
@@ -91,7 +92,7 @@ module _ (l : Limits) (s : List ℕ) where
   going_digit hex k fuel n i acts digits more =
       let m = n * base hex + digit_of (byte_at s i) in
       rw digits
-      (cond_cases (Outcome l s (Counted hex k)) (leb m 1114111)
+      (cond_both (leb m 1114111) _ _ (Outcome l s (Counted hex k))
       (λ t.
       let next = numbered_small hex m k (leb m 1114111) refl t in
       more m (next.0, acts_has l s acts (is_digit (base hex)) digits next.1))
@@ -116,7 +117,7 @@ module _ (l : Limits) (s : List ℕ) where
       → Outcome l s (λ e. has test s i ≡ true) (one test s i)
   unfolding one
   there test next i acts =
-      cond_cases (Outcome l s (λ e. has test s i ≡ true)) (has test s i) (λ t. t)
+      cond_both (has test s i) _ _ (Outcome l s (λ e. has test s i ≡ true)) (λ t. t)
       (λ t. acts_stuck l s acts (λ inside. rw (fails_byte test s i inside t)))
 
   going_numbered : (hex : Bool) (k : State) (i : ℕ) → Acts l s (λ x. cond (is_digit (base hex) x) (digit hex 0 k x) dead) i
@@ -146,15 +147,15 @@ module _ (l : Limits) (s : List ℕ) where
   unfolding predefined_at
   going_predefined k i here sharp =
       let not_sharp : (i < length s → is 35 (byte_at s i) ≡ false) = (λ inside. fails_byte (is 35) s i inside sharp) in
-      cond_cases (Outcome l s (Behind k)) (has (is 108) s i)
+      cond_both (has (is 108) s i) _ _ (Outcome l s (Behind k))
       (λ t. going_stands k 108 (116 ∷ 59 ∷ []) 60 i (acting l s here refl refl (λ inside. rw (not_sharp inside, has_byte (is 108) s i t))))
       (λ t.
       let not_l : (i < length s → is 108 (byte_at s i) ≡ false) = (λ inside. fails_byte (is 108) s i inside t) in
-      cond_cases (Outcome l s (Behind k)) (has (is 103) s i)
+      cond_both (has (is 103) s i) _ _ (Outcome l s (Behind k))
       (λ u. going_stands k 103 (116 ∷ 59 ∷ []) 62 i
       (acting l s here refl refl (λ inside. rw (not_sharp inside, not_l inside, has_byte (is 103) s i u)))) (λ u.
       let not_g : (i < length s → is 103 (byte_at s i) ≡ false) = (λ inside. fails_byte (is 103) s i inside u) in
-      cond_cases (Outcome l s (Behind k)) (has (is 113) s i)
+      cond_both (has (is 113) s i) _ _ (Outcome l s (Behind k))
       (λ v.
       going_stands k 113 (117 ∷ 111 ∷ 116 ∷ 59 ∷ []) 34 i
       (acting l s here refl refl (λ inside. rw (not_sharp inside, not_l inside, not_g inside, has_byte (is 113) s i v)))) (λ v.
@@ -162,7 +163,7 @@ module _ (l : Limits) (s : List ℕ) where
       outcome_then l s (λ j. At l s (ampersand_a k) j × (j ≡ i + 1)) (Behind k) _ (one (is 97) s i)
       (acts_only l s (ampersand_a k) (is 97) i
       (acting l s here refl refl (λ inside. rw (not_sharp inside, not_l inside, not_g inside, not_q inside)))) (λ j q h.
-      cond_cases (Outcome l s (Behind k)) (has (is 109) s j)
+      cond_both (has (is 109) s j) _ _ (Outcome l s (Behind k))
       (λ w. going_stands k 109 (112 ∷ 59 ∷ []) 38 j (acting l s h.0 refl refl (λ inside. rw (has_byte (is 109) s j w))))
       (λ w. going_stands k 112 (111 ∷ 115 ∷ 59 ∷ []) 39 j
       (acting l s h.0 refl refl (λ inside. rw (fails_byte (is 109) s j inside w))))))))
@@ -173,9 +174,9 @@ module _ (l : Limits) (s : List ℕ) where
   going_referenced : (k : State) (i : ℕ) → At l s (ampersand k) i
       → Outcome l s (Behind k) (cond (has (is 35) s i) (cond (has (is 120) s (i + 1)) (numbered_at 16 s (i + 2)) (numbered_at 10 s (i + 1))) (predefined_at s i))
   going_referenced k i here =
-      cond_cases (Outcome l s (Behind k)) (has (is 35) s i) (λ t.
+      cond_both (has (is 35) s i) _ _ (Outcome l s (Behind k)) (λ t.
       let behind : At l s (hash k) (i + 1) = at_has l s (is 35) i here t refl (rw (has_byte (is 35) s i t)) in
-      cond_cases (Outcome l s (Behind k)) (has (is 120) s (i + 1))
+      cond_both (has (is 120) s (i + 1)) _ _ (Outcome l s (Behind k))
       (λ u.
       let from : At l s (first_digit true k) (i + 1 + 1) = at_has l s (is 120) (i + 1) behind u refl (rw (has_byte (is 120) s (i + 1) u)) in
       going_numbered true k (i + 2) (acting l s (subst (At l s (first_digit true k)) (omega arith) from) refl refl (λ inside. refl)))
@@ -185,6 +186,6 @@ module _ (l : Limits) (s : List ℕ) where
   pub going_special : (k : State) (i : ℕ) → Acts l s (special k) i → Outcome l s (λ c. At l s k c.end) (special_at s i)
   unfolding special_at reference_at
   going_special k i acts =
-      cond_cases (Outcome l s (Behind k)) (has (is 38) s i)
+      cond_both (has (is 38) s i) _ _ (Outcome l s (Behind k))
       (λ t. rw (one_yes (is 38) s i t) (going_referenced k (i + 1) (acts_has l s acts (is 38) t (rw (has_byte (is 38) s i t)))))
       (λ t. going_long k i (acts_as l s acts _ (λ inside. rw (fails_byte (is 38) s i inside t))))

@@ -1,19 +1,20 @@
 -- The machine reads the declaration as `declaration_at` does. Assumes nothing.
 use Prim.Native.Nat.{ℕ, ◌+◌, ◌-◌, ◌<◌, ◌≤◌}
 use mathlib.Core.Path.{◌≡◌, refl, sym, ◌∙◌, ap}
-use mathlib.Core.Bool.{Bool, true, false, cond, ◌&&◌, true≢false, and-false}
+use mathlib.Core.Bool.{Bool, true, false, cond, ◌&&◌, and-false}
 use mathlib.Core.List.{List, [], ◌∷◌}
 use native.Mathlib.Omega.{arith}
 use lib.ListN.{length}
 use lib.Dec.{leb}
 use borrow.Author.Tests.{lt-ltb, le-leb}
+use Rattle.std.proofs.lemmas.Bool.{and_parts, cond_both}
 use Rattle.message.specs.Class.{class_of, is_start, is_space}
 use Rattle.message.specs.Reading.{◌>>=◌, is_whole, is, byte_at, has, one, ends, word_at, opened_at, closed_at}
 use Rattle.message.specs.Reading.Reading.{whole}
 use Rattle.message.specs.Markup as markup
 use Rattle.message.specs.Markup.{declares, utf8_at, encoding_at, declaration_at}
 use Rattle.message.specs.Limits.{Limits}
-use Rattle.message.proofs.Laws.{cond_cases, has_lt, has_byte, one_yes, one_no, ends_more, ends_stop, both_first, both_second, fails_byte}
+use Rattle.message.proofs.Laws.{has_lt, has_byte, one_yes, one_no, ends_more, ends_stop, fails_byte}
 use Rattle.message.proofs.Bytes.{question_no_start, solid_question, solid_v}
 use Rattle.message.proofs.Runs.{ends_fails, byte_is, has_known}
 use Rattle.message.proofs.Facts.{whole_is}
@@ -30,7 +31,7 @@ module _ (l : Limits) (s : List ℕ) where
 
   module _ (here : At l s (ground first) 0) (declaring : declares class_of s ≡ true) where
     abbrev spells : (e : ℕ) × (word_at markup.xml s 0 ≡ whole e)
-    spells = whole_is (word_at markup.xml s 0) (both_first (is_whole (word_at markup.xml s 0)) (has (is_space class_of) s 5) declaring)
+    spells = whole_is (word_at markup.xml s 0) (and_parts (is_whole (word_at markup.xml s 0)) (has (is_space class_of) s 5) declaring).0
 
     at_declared : At l s declared 5
     at_declared =
@@ -58,7 +59,7 @@ module _ (l : Limits) (s : List ℕ) where
     going_version : Outcome l s (λ e. At l s (equals version_quote) e) (word_at markup.version s (ends (is_space class_of) s 5))
     going_version =
         let space : has (is_space class_of) s 5 ≡ true =
-        both_second (is_whole (word_at markup.xml s 0)) (has (is_space class_of) s 5) declaring in
+        (and_parts (is_whole (word_at markup.xml s 0)) (has (is_space class_of) s 5) declaring).1 in
         rw (ends_more (is_space class_of) s 5 space)
         (going_blanks_word l s 118 solid_v (101 ∷ 114 ∷ 115 ∷ 105 ∷ 111 ∷ 110 ∷ []) [] (equals version_quote) 6
         (at_has l s (is_space class_of) 5 at_declared space refl (rw (has_byte (is_space class_of) s 5 space))))
@@ -99,10 +100,10 @@ module _ (l : Limits) (s : List ℕ) where
   going_utf8 : (q from : ℕ) → At l s (encoding_name q) from → Outcome l s (λ e. At l s (expect (exact q) [] declared_end) e) (utf8_at s from)
   unfolding utf8_at word_at
   going_utf8 q from here =
-      cond_cases (Outcome l s (λ e. At l s (expect (exact q) [] declared_end) e)) (has (is 117) s from)
+      cond_both (has (is 117) s from) _ _ (Outcome l s (λ e. At l s (expect (exact q) [] declared_end) e))
       (λ h. outcome_then l s _ _ _ (one (is 117) s from)
       (outcome_one l s (expect (exact 116) (exactly (102 ∷ 45 ∷ 56 ∷ q ∷ [])) declared_end) (is 117) from here refl (λ t. refl)
-      (λ t. rw (has_byte (is 117) s from t)) (λ within t. absurd (true≢false (sym h ∙ t))))
+      (λ t. rw (has_byte (is 117) s from t)) (λ within t. cc))
       (λ e r at-e. outcome_word l s (116 ∷ 102 ∷ 45 ∷ 56 ∷ []) (exact q ∷ []) declared_end e at-e.0))
       (λ h. outcome_then l s _ _ _ (one (is 85) s from)
       (outcome_one l s (expect (exact 84) (exactly (70 ∷ 45 ∷ 56 ∷ q ∷ [])) declared_end) (is 85) from here refl (λ t. refl)
@@ -192,5 +193,5 @@ module _ (l : Limits) (s : List ℕ) where
       outcome_then l s _ _ _ (closed_at s from to)
       (going_closed from to (versioned false) opened.some at-to (omega (arith, word_ends s markup.one_dot_zero from to t)))
       (λ done u at_done.
-      cond_cases (Outcome l s (λ e. At l s (ground before) e)) (has (is 63) s (ends (is_space class_of) s done))
+      cond_both (has (is 63) s (ends (is_space class_of) s done)) _ _ (Outcome l s (λ e. At l s (ground before) e))
       (λ h. going_end done at_done h) (λ h. going_encoding done at_done h)))))

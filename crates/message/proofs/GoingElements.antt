@@ -7,7 +7,7 @@ use native.Mathlib.Omega.{arith}
 use lib.ListN.{length}
 use lib.Dec.{ltb, leb}
 use borrow.Author.Tests.{lt-leb, le-ltb, ltb-true, ltb-false}
-use Rattle.laws.proofs.Tests.{and_right}
+use Rattle.std.proofs.lemmas.Bool.{cond_both}
 use Rattle.message.specs.Class.{class_of, is_start, is_space}
 use Rattle.message.specs.Reading.{Reading, ◌>>=◌, is, byte_at, has}
 use Rattle.message.specs.Reading.Reading.{whole, refused}
@@ -16,7 +16,7 @@ use Rattle.message.specs.Markup.{bang_at, around_at, declares, declaration_at}
 use Rattle.message.specs.Limits.{Limits}
 use Rattle.message.specs.Elements.{part, Element, Start, Content, unfilled, filled, free_at, start_at, end_tag_at, content_at, rest_at, element_at, end_at, declared_of, root_at, document_at}
 use Rattle.message.specs.Readable.{of_end}
-use Rattle.message.proofs.Laws.{cond_cases, has_lt, has_byte, fails_byte}
+use Rattle.message.proofs.Laws.{has_lt, has_byte, fails_byte}
 use Rattle.message.proofs.Runs.{has_known}
 use Rattle.message.proofs.Bytes.{slash_no_start}
 use Rattle.message.proofs.Progress.{past_whole}
@@ -53,14 +53,14 @@ module _ (l : Limits) (s : List ℕ) where
       outcome_then l s _ (AtTag v o) _ (text_at class_of (length s) s i) (going_text l s v o (length s) b i (omega arith) safe here)
       (λ stop q at_stop.
       let on : i ≤ stop = (text_whole class_of s i stop q).0 in
-      cond_cases (Outcome l s (AtTag v o)) (has (is 33) s (stop + 1))
+      cond_both (has (is 33) s (stop + 1)) _ _ (Outcome l s (AtTag v o))
       (λ h.
       outcome_then l s _ (AtTag v o) _ (bang_at class_of s stop)
       (going_bang l s (inside at_stop.0 v o) stop at_stop.1 at_stop.2 h) (λ e r at-e.
       let past : stop < e = (past_whole (λ x. x) (length s) stop r (past_bang class_of s stop stop (omega arith))).0 in
       going_free v o fuel 0 e (omega arith) tt at-e))
       (λ no_bang.
-      cond_cases (Outcome l s (AtTag v o)) (has (is 63) s (stop + 1))
+      cond_both (has (is 63) s (stop + 1)) _ _ (Outcome l s (AtTag v o))
       (λ h. (ground (inside at_stop.0 v o), at_stop.1, opens (inside at_stop.0 v o) refl at_stop.2 (rw (no_bang, h))))
       (λ no_question. record { bracketed = at_stop.0; here = at_stop.1; tagged = at_stop.2; no_bang = no_bang; no_question = no_question })))
 
@@ -106,7 +106,7 @@ module _ (l : Limits) (s : List ℕ) where
     going_content zero b i enough safe here = stuck_here l s here refl (λ within. absurd (omega arith))
     going_content (suc fuel) b i enough safe here =
         outcome_then l s _ _ _ (free_at class_of s (length s) i) (going_free v o (length s) b i (omega arith) safe here) (λ stop q at_tag.
-        cond_cases (Outcome l s (λ c. At l s (after o) c.end)) (has (is 47) s (stop + 1))
+        cond_both (has (is 47) s (stop + 1)) _ _ (Outcome l s (λ c. At l s (after o) c.end))
         (λ h. outcome_then l s _ _ _ (end_tag_at class_of s l start.begin start.name (stop + 2)) (going_closed stop at_tag h)
         (λ e r at-e. at-e))
         (λ h.
@@ -170,8 +170,8 @@ module _ (l : Limits) (s : List ℕ) where
         here = here;
         front = side;
         lost = dying;
-        no_bang = λ t. and_right (has (is 60) s i) (has (is 33) s (i + 1)) around.no_bang t;
-        no_question = λ t. and_right (has (is 60) s i) (has (is 63) s (i + 1)) around.no_question t;
+        no_bang = λ t. rw t at around.no_bang;
+        no_question = λ t. rw t at around.no_question;
         no_slash = λ t. slash;
       }
 
@@ -182,7 +182,7 @@ module _ (l : Limits) (s : List ℕ) where
           → (now : Ground) × (depth now ≡ 0) × (names now ≡ []) × Place l s now i
       go first outer side here = (first, refl, refl, place first here side refl (λ inner t. rw (blank inner)))
       go before outer side here = (before, refl, refl, place before here side refl (λ inner t. rw (blank inner)))
-      go behind outer side here = absurd (true≢false side)
+      go behind outer side here = cc
       go (inside b v o) outer side here = absurd outer
 
   -- nothing more stands behind the root
@@ -194,18 +194,18 @@ module _ (l : Limits) (s : List ℕ) where
       here = go around.now around.along.outer around.along.side around.here
         where
           go : (now : Ground) → Outer l s now → is_behind now ≡ true → At l s (ground now) i → At l s (ground behind) i
-          go first outer side at-now = absurd (true≢false (sym side))
-          go before outer side at-now = absurd (true≢false (sym side))
+          go first outer side at-now = cc
+          go before outer side at-now = cc
           go behind outer side at-now = at-now
           go (inside b v o) outer side at-now = absurd outer
 
       no_bang : has (is 60) s i ≡ true → has (is 33) s (i + 1) ≡ false
-      no_bang t = and_right (has (is 60) s i) (has (is 33) s (i + 1)) around.no_bang t
+      no_bang t = rw t at around.no_bang
 
       at_opened : has (is 60) s i ≡ true → At l s (opened behind) (i + 1)
       at_opened h =
           at_has l s (is 60) i here h
-          (rw (h, no_bang h, and_right (has (is 60) s i) (has (is 63) s (i + 1)) around.no_question h, and-false (leb l.levels 0)))
+          (rw (h, no_bang h, rw h at around.no_question, and-false (leb l.levels 0)))
           (rw (has_byte (is 60) s i h))
 
       last : has (is 60) s i ≡ false → (t : Bool) → ltb i (length s) ≡ t
@@ -237,7 +237,7 @@ module _ (l : Limits) (s : List ℕ) where
       let out : At l s (ground behind) root.tag.end =
       subst (λ (o : List (List ℕ)). At l s (after o) root.tag.end) there.2 at_end in
       outcome_then l s _ _ _ (around_at class_of (suc (length s)) s root.tag.end)
-      (going_around l s (suc (length s)) behind tt (λ e. absurd (true≢false (sym e))) root.tag.end (omega arith) out) (λ last t around'.
+      (going_around l s (suc (length s)) behind tt (λ e. cc) root.tag.end (omega arith) out) (λ last t around'.
       outcome_then l s _ _ _ (end_at s last) (going_end last around') (λ e u at_last. at_last))))
 
   -- the machine stands where the root may begin
@@ -254,7 +254,7 @@ module _ (l : Limits) (s : List ℕ) where
     where
       declaring : Outcome l s Begins (declared_of class_of s)
       declaring =
-          cond_cases (Outcome l s Begins) (declares class_of s)
+          cond_both (declares class_of s) _ _ (Outcome l s Begins)
           (λ h. outcome_as l s _ _ (declaration_at class_of s 5) (going_declaration l s refl h)
-          (λ e q at-e. (before, tt, refl, (λ f. absurd (true≢false (sym f))), at-e)))
+          (λ e q at-e. (before, tt, refl, (λ f. cc), at-e)))
           (λ h. (first, tt, refl, (λ f. h), refl))

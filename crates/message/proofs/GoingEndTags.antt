@@ -85,7 +85,7 @@ module _ (l : Limits) (s : List ℕ) (o : List (List ℕ)) where
           close y (w ++ w') true o,
           here,
           longs (rw (h, e)) e (closing (w ++ w') (is 58 y) o) (rw (has_byte (is y) s i h))
-              (λ spaced m seen o' q. let z : ◌≡◌ {A = ℕ} 0 1 = cc in absurd (omega arith)) stands,
+              (λ spaced m seen o' q. cc) stands,
         )
         short h false e =
             outcome_as l s (λ e. At l s (closing w' false o) e) Matched (word_at (y ∷ w) s i) (going_begun h e) (λ e q here'. (here', q))
@@ -116,7 +116,7 @@ module _ (l : Limits) (s : List ℕ) (o : List (List ℕ)) where
       go : (v : List ℕ) → v ≡ byte_at s q ∷ part s (q + 1) (ends (is_name class_of) s q) → AllName v → At l s (closing (v ++ w') true o) i
           → Part l s i
           → Outcome l s (λ e. At l s (closing w' false o) e × (word_at v s i ≡ whole e)) (end_part_at class_of s l v i)
-      go [] e all here stands = let z : ◌≡◌ {A = ℕ} 0 1 = cc in absurd (omega arith)
+      go [] e all here stands = cc
       go (y ∷ w) e all here stands = going_end_part l s o y w w' all i here stands
 
   module _ (b : ℕ) (name : Named) (tag i : ℕ) (marked : MarkedAt l s tag) (begins : FirstPart s tag i) (here : At l s (closing (part s b name.end) true o) i) where

@@ -1,17 +1,19 @@
 -- The machine reads comments where markup may begin, and what stands around the root, as `bang_at` and `around_at` do. Assumes nothing.
 use Prim.Native.Nat.{ℕ, zero, suc, ◌+◌, ◌<◌, ◌≤◌}
-use mathlib.Core.Path.{◌≡◌, refl, sym, ◌∙◌, subst}
-use mathlib.Core.Bool.{Bool, true, false, not, ◌&&◌, ◌||◌, true≢false, and-false}
+use mathlib.Core.Path.{◌≡◌, refl, ◌∙◌, subst}
+use mathlib.Core.Bool.{Bool, true, false, not, ◌&&◌, ◌||◌, and-false}
 use mathlib.Core.List.{List, []}
 use native.Mathlib.Omega.{arith}
 use lib.ListN.{length}
 use lib.Dec.{leb}
-use Rattle.laws.proofs.Tests.{or_last, not_both}
+use Rattle.std.proofs.lemmas.Bool.{or_right, cond_both}
+use Rattle.std.proofs.lemmas.Bool.Decides.{nat_tests}
+use Rattle.laws.proofs.Tests.{not_both}
 use Rattle.message.specs.Class.{class_of, is_start, is_space}
 use Rattle.message.specs.Reading.{is_whole, is, byte_at, has, ends, word_at}
 use Rattle.message.specs.Markup.{doctype, cdata, hyphens, opens_at, bang_at, around_at, declares}
 use Rattle.message.specs.Limits.{Limits}
-use Rattle.message.proofs.Laws.{cond_cases, has_byte, one_yes, ends_more, ends_stop, ends_from, both_first, both_second}
+use Rattle.message.proofs.Laws.{has_byte, one_yes, ends_more, ends_stop, ends_from}
 use Rattle.message.proofs.Bytes.{has_fails, bang_no_start, space_no_tag}
 use Rattle.message.proofs.Runs.{ends_fails, has_known}
 use Rattle.message.proofs.Progress.{past_whole}
@@ -48,7 +50,7 @@ module _ (l : Limits) (s : List ℕ) where
     going_bang =
         let two : i + 1 + 1 ≡ i + 2 = omega arith in
         rw (one_yes (is 60) s i tag, one_yes (is 33) s (i + 1) bang, two)
-        (cond_cases (Outcome l s (λ e. At l s (ground (rest g)) e)) undeclared
+        (cond_both undeclared _ _ (Outcome l s (λ e. At l s (ground (rest g)) e))
         (λ h. (ground g, here, opens g refl tag (rw (bang, h))))
         (λ h. outcome_then l s _ _ _ (word_at hyphens s (i + 2))
         (outcome_word l s hyphens [] (note 0 (ground (rest g))) (i + 2) (at_comment h))
@@ -95,7 +97,7 @@ module _ (l : Limits) (s : List ℕ) where
   over_blanks (inside b v o) outer i here = absurd outer
 
   along_rest : (g g' : Ground) → Along g g' → Along g (rest g')
-  along_rest g first a = record { outer = tt; side = a.side; start = λ e. absurd (true≢false (sym e)) }
+  along_rest g first a = record { outer = tt; side = a.side; start = λ e. cc }
   along_rest g before a = a
   along_rest g behind a = a
   along_rest g (inside b v o) a = absurd a.outer
@@ -106,8 +108,8 @@ module _ (l : Limits) (s : List ℕ) where
   question_opens : (g : Ground) (i : ℕ) → has (is 63) s (i + 1) ≡ true → (is_first g ≡ true → declares class_of s ≡ false)
       → opening l s g i ≡ true
   question_opens g i h plain =
-      or_last (has (is 33) s (i + 1) && (is_whole (word_at doctype s (i + 2)) || is_whole (word_at cdata s (i + 2))))
-      {b = has (is 63) s (i + 1) && not (is_first g && declares class_of s)} (rw h (not_both (is_first g) plain))
+      or_right (has (is 33) s (i + 1) && (is_whole (word_at doctype s (i + 2)) || is_whole (word_at cdata s (i + 2)))) _
+      (rw h (not_both (is_first g) plain))
 
   -- behind white space and comments, at what is neither
   pub record Around (g : Ground) (e : ℕ) : Type 0 where
@@ -130,7 +132,7 @@ module _ (l : Limits) (s : List ℕ) where
 
   -- behind white space, at a `<` and another byte
   opens_both : (b i : ℕ) → opens_at b s i ≡ true → (has (is 60) s i ≡ true) × (has (is b) s (i + 1) ≡ true)
-  opens_both b i h = (both_first (has (is 60) s i) (has (is b) s (i + 1)) h, both_second (has (is 60) s i) (has (is b) s (i + 1)) h)
+  opens_both b i h = grind (arith, nat_tests)
 
   pub going_around : (fuel : ℕ) (g : Ground) → Outer g → (is_first g ≡ true → declares class_of s ≡ false) → (i : ℕ) → length s < fuel + i
       → At l s (ground g) i → Outcome l s (Around g) (around_at class_of fuel s i)
@@ -141,7 +143,7 @@ module _ (l : Limits) (s : List ℕ) where
       let over = over_blanks g outer i here in
       let g' : Ground = over.0 in
       let on : i ≤ stop = ends_from (is_space class_of) s i in
-      cond_cases (Outcome l s (Around g)) (opens_at 33 s stop)
+      cond_both (opens_at 33 s stop) _ _ (Outcome l s (Around g))
       (λ h.
       let both = opens_both 33 stop h in
       outcome_then l s (λ e. At l s (ground (rest g')) e) (Around g) _ (bang_at class_of s stop)
@@ -152,7 +154,7 @@ module _ (l : Limits) (s : List ℕ) where
       (going_around fuel (rest g') along.outer (λ f. plain (along.start f)) e (omega arith) at-e)
       (λ e' q' a. around_along g (rest g') e' along a)))
       (λ no_bang.
-      cond_cases (Outcome l s (Around g)) (opens_at 63 s stop)
+      cond_both (opens_at 63 s stop) _ _ (Outcome l s (Around g))
       (λ h.
       let both = opens_both 63 stop h in
       (ground g', over.1, opens g' refl both.0 (question_opens g' stop both.1 (λ f. plain (over.2.start f)))))

@@ -5,6 +5,7 @@ use mathlib.Core.Bool.{Bool, true, false, cond, not, ◌&&◌, and-false}
 use mathlib.Core.List.{List, [], ◌∷◌, ◌++◌}
 use native.Mathlib.Omega.{arith}
 use lib.ListN.{length}
+use Rattle.std.proofs.lemmas.Bool.{cond_both}
 use Rattle.message.specs.Class.{class_of, is_start, is_name}
 use Rattle.message.specs.Reading.{◌>>=◌, is, byte_at, has, one, ends}
 use Rattle.message.specs.Reading.Reading.{whole, refused}
@@ -12,7 +13,7 @@ use Rattle.message.specs.Names.{Named, short_at, part_at, name_at}
 use Rattle.message.specs.Limits.{Limits}
 use Rattle.message.specs.Elements.{part}
 use Rattle.message.specs.Readable.{FirstPart, second}
-use Rattle.message.proofs.Laws.{cond_cases, has_lt, has_byte, one_yes, one_no, ends_more, fails_byte}
+use Rattle.message.proofs.Laws.{has_lt, has_byte, one_yes, one_no, ends_more, fails_byte}
 use Rattle.message.proofs.Parts.{part_more}
 use Rattle.message.proofs.Runs.{ends_fails, byte_is, start_name, start_in_name, run_keeps}
 use Rattle.message.proofs.Automaton.{State, dead, goes, only, step}
@@ -111,7 +112,7 @@ module _ (l : Limits) (s : List ℕ) where
     unfolding name_at
     going_name b at_b =
         outcome_then l s (Behind N false b b) (NameRead b) _ (part_at class_of l.part s b) (going_part N false b b at_b.before)
-        (λ e q behind. cond_cases (Outcome l s (NameRead b)) (has (is 58) s e) (λ h. divided e behind h) (λ h. undivided e behind h))
+        (λ e q behind. cond_both (has (is 58) s e) _ _ (Outcome l s (NameRead b)) (λ h. divided e behind h) (λ h. undivided e behind h))
       where
         stopped : {q : ℕ} {t : Bool} (e : ℕ) → Behind N t b q e → has (is_name class_of) s e ≡ false
         stopped {q = q} e behind = ap (has (is_name class_of) s) behind.run ∙ ends_fails (is_name class_of) s q

@@ -1,12 +1,13 @@
 -- The machine reads start tags as `start_at` does, where an element may begin. Assumes nothing.
 use Prim.Native.Nat.{ℕ, ◌+◌, ◌<◌}
 use mathlib.Core.Path.{◌≡◌, refl, sym, ◌∙◌, ap}
-use mathlib.Core.Bool.{Bool, true, false, not, ◌&&◌, true≢false, and-false}
+use mathlib.Core.Bool.{Bool, true, false, not, ◌&&◌, and-false}
 use mathlib.Core.List.{List, [], ◌∷◌}
 use native.Mathlib.Omega.{arith}
 use lib.ListN.{length}
 use lib.Dec.{leb}
 use borrow.Author.Tests.{le-leb}
+use Rattle.std.proofs.lemmas.Bool.{cond_both}
 use Rattle.message.specs.Class.{class_of, is_start, is_name}
 use Rattle.message.specs.Reading.{◌>>=◌, is, byte_at, has, one}
 use Rattle.message.specs.Reading.Reading.{whole, refused}
@@ -15,7 +16,7 @@ use Rattle.message.specs.Limits.{Limits}
 use Rattle.message.specs.Elements.{part, Element, Start, start_end_at, too_deep_at, attributes_at, with_name_at, start_at}
 use Rattle.message.specs.Readable.{of_start}
 use Rattle.message.specs.Readable as readable
-use Rattle.message.proofs.Laws.{cond_cases, has_second, has_in, has_lt, has_byte, one_yes, one_no, fails_byte}
+use Rattle.message.proofs.Laws.{has_second, has_in, has_lt, has_byte, one_yes, one_no, fails_byte}
 use Rattle.message.proofs.Parts.{part_one}
 use Rattle.message.proofs.Bytes.{colon_no_name}
 use Rattle.message.proofs.Automaton.{Ground, first, before, behind, inside, ground, opened, name, colon, in_tag, dead, step, after, named, tag, between_tags, step_in_tag}
@@ -34,7 +35,7 @@ names (inside b v o) = v ∷ o
 
 -- behind the colon of a name the machine is not behind the name
 pub colon_no_tag : {n : List ℕ} {o : List (List ℕ)} {b : Bool} {m : List ℕ} {seen o' : List (List ℕ)} → colon n o ≡ in_tag b m seen o' → ⊥
-colon_no_tag e = let z : ◌≡◌ {A = ℕ} 0 1 = cc in omega arith
+colon_no_tag e = cc
 
 module _ (l : Limits) (s : List ℕ) where
   -- a `/` behind the `<` ends the element around it
@@ -82,7 +83,7 @@ module _ (l : Limits) (s : List ℕ) where
               → tag g (byte_at s (i + 1)) ≡ named (names g) (byte_at s (i + 1))
           go first front other ends_it t = rw other
           go before front other ends_it t = refl
-          go behind front other ends_it t = absurd (true≢false front)
+          go behind front other ends_it t = cc
           go (inside b v o) front other ends_it t = rw (ends_it t)
 
     -- ---- at the last level
@@ -132,7 +133,7 @@ module _ (l : Limits) (s : List ℕ) where
               ∙ rw (has_byte (is_start class_of) s (i + 1) h, part_one s (i + 1) (has_lt (is_start class_of) s (i + 1) h));
           fails = λ within h. opens_name tagged within ∙ rw (fails_byte (is_start class_of) s (i + 1) within h);
           looks = λ h. rw (place.front, h);
-          roomy = λ spaced m seen o e. let z : ◌≡◌ {A = ℕ} 0 1 = cc in absurd (omega arith);
+          roomy = λ spaced m seen o e. cc;
           stands = record { at = i; marked = (g, place.here); stands = readable.first (of_start tagged refl) };
         };
         at = i;
@@ -160,14 +161,14 @@ module _ (l : Limits) (s : List ℕ) where
           → Outcome l s (Started g i) (start_end_at s (i + 1) n p)
       unfolding start_end_at
       going_start_end n p ends =
-          cond_cases (Outcome l s (Started g i)) (has (is 47) s p)
+          cond_both (has (is 47) s p) _ _ (Outcome l s (Started g i))
           (λ h. outcome_then l s _ _ _ (one (is 62) s (p + 1))
           (outcome_one l s (after (names g)) (is 62) (p + 1) (ends.empties h) refl (λ t. refl) (λ t. rw (has_byte (is 62) s (p + 1) t))
           (λ within t. rw (fails_byte (is 62) s (p + 1) within t)))
-          (λ e q at-e. record { emptied = λ t. at-e.0; filled = λ t. absurd (true≢false t) }))
+          (λ e q at-e. record { emptied = λ t. at-e.0; filled = λ t. cc }))
           (λ h.
           let greater : has (is 62) s p ≡ true = sym (has_second (is 47) (is 62) s p h) ∙ ends.ends_tag_lem in
-          rw (one_yes (is 62) s p greater) (record { emptied = λ t. absurd (true≢false (sym t)); filled = λ t. ends.fills greater }))
+          rw (one_yes (is 62) s p greater) (record { emptied = λ t. cc; filled = λ t. ends.fills greater }))
 
       going_with_name : Outcome l s (Started g i) (name_at class_of l.part s (i + 1) >>= (λ n. with_name_at class_of s l (i + 1) n))
       unfolding with_name_at

@@ -1,17 +1,18 @@
 -- The machine does what the readers of text, of values and of comments do. Assumes nothing.
 use Prim.Native.Nat.{ℕ, zero, suc, ◌+◌, ◌<◌, ◌≤◌}
-use mathlib.Core.Path.{◌≡◌, refl, sym, ◌∙◌, ap, subst}
-use mathlib.Core.Bool.{Bool, true, false, cond, ◌&&◌, and-false, true≢false}
+use mathlib.Core.Path.{◌≡◌, refl, ◌∙◌, ap, subst}
+use mathlib.Core.Bool.{Bool, true, false, cond, ◌&&◌, and-false}
 use mathlib.Core.List.{List}
 use native.Mathlib.Omega.{arith}
 use lib.ListN.{length}
 use lib.Dec.{eqb}
+use Rattle.std.proofs.lemmas.Bool.{and_parts, cond_both}
 use Rattle.message.specs.Class.{class_of, is_text, is_plain, is_plain_note}
 use Rattle.message.specs.Reading.{is, is_quote, byte_at, has, one, ends}
 use Rattle.message.specs.Text.{special_at, bracket_at, beyond_plain_in_at, beyond_plain_at, beyond_note_at, hyphens_at, text_at, value_at, comment_at}
 use Rattle.message.specs.Characters.{long_at}
 use Rattle.message.specs.Limits.{Limits}
-use Rattle.message.proofs.Laws.{cond_cases, both_first, both_second, has_in, has_lt, has_byte, ends_from, ends_more, ends_stop, fails_byte}
+use Rattle.message.proofs.Laws.{has_in, has_lt, has_byte, ends_from, ends_more, ends_stop, fails_byte}
 use Rattle.message.proofs.Acting.{Acts, acting, acts_at, acts_has, acts_as, acts_only}
 use Rattle.message.proofs.Bytes.{other_than, has_other, quote_no_plain, tag_no_plain, bracket_no_plain, plain_text, note_no_hyphen}
 use Rattle.message.proofs.Runs.{ends_fails, byte_is}
@@ -28,7 +29,7 @@ module _ (l : Limits) (s : List ℕ) where
       → Outcome l s (λ e. At l s k e) (beyond_plain_in_at class_of s i)
   unfolding beyond_plain_in_at
   going_beyond_in k i acts =
-      cond_cases (Outcome l s (λ e. At l s k e)) (has (is_text class_of) s i)
+      cond_both (has (is_text class_of) s i) _ _ (Outcome l s (λ e. At l s k e))
       (λ t. acts_has l s acts (is_text class_of) t (rw (has_byte (is_text class_of) s i t))) (λ t.
       outcome_then l s (Behind l s k) (λ e. At l s k e) _ (special_at s i)
       (going_special l s k i (acts_as l s acts _ (λ below. rw (fails_byte (is_text class_of) s i below t)))) (λ c q h. h))
@@ -52,7 +53,7 @@ module _ (l : Limits) (s : List ℕ) where
       let stop = ends (is_plain class_of) s i in
       let there : At l s st stop = at_ends l s (is_plain class_of) (λ j h. refl) (value_stays q quotes n seen o) i here in
       let further : i ≤ stop = ends_from (is_plain class_of) s i in
-      cond_cases (Outcome l s (Quoted q st)) (has (is q) s stop) (λ t. (there, t)) (λ t.
+      cond_both (has (is q) s stop) _ _ (Outcome l s (Quoted q st)) (λ t. (there, t)) (λ t.
       outcome_then l s (λ e. At l s st e) (Quoted q st) (value_at class_of fuel q s) (beyond_plain_in_at class_of s stop)
       (going_beyond_in st stop (acting l s there refl refl (λ below. rw (fails_byte (is q) s stop below t)))) (λ e w h.
       going_value q quotes n seen o fuel e (omega (arith, beyond_plain_in_on s stop class_of e w)) h))
@@ -144,8 +145,8 @@ module _ (l : Limits) (s : List ℕ) where
         → Stuck l s 9 (i + 2)
     unfolding class_of
     text_dead b i here h t =
-        let h1 : has (is 93) s (i + 1) ≡ true = both_first (has (is 93) s (i + 1)) (has (is 62) s (i + 2)) t in
-        let h2 : has (is 62) s (i + 2) ≡ true = both_second (has (is 93) s (i + 1)) (has (is 62) s (i + 2)) t in
+        let h1 : has (is 93) s (i + 1) ≡ true = (and_parts (has (is 93) s (i + 1)) (has (is 62) s (i + 2)) t).0 in
+        let h2 : has (is 62) s (i + 2) ≡ true = (and_parts (has (is 93) s (i + 1)) (has (is 62) s (i + 2)) t).1 in
         let x_is : byte_at s (i + 2) ≡ 62 = byte_is 62 s (i + 2) h2 in
         let there = text_bracket (brackets b) (i + 1) (text_bracket b i here h) h1 in (
           within (brackets (brackets b)),
@@ -160,8 +161,8 @@ module _ (l : Limits) (s : List ℕ) where
     text_beyond : (i : ℕ) → Text i → has (is 60) s i ≡ false → Outcome l s Text (beyond_plain_at class_of s i)
     unfolding beyond_plain_at bracket_at
     text_beyond i here h =
-        cond_cases (Outcome l s Text) (has (is 93) s i) (λ t.
-        cond_cases (Outcome l s Text) (has (is 93) s (i + 1) && has (is 62) s (i + 2)) (λ u. text_dead here.0 i here.2 t u)
+        cond_both (has (is 93) s i) _ _ (Outcome l s Text) (λ t.
+        cond_both (has (is 93) s (i + 1) && has (is 62) s (i + 2)) _ _ (Outcome l s Text) (λ u. text_dead here.0 i here.2 t u)
         (λ u. (brackets here.0, bracket_safe here.0 i here.1 t u, text_bracket here.0 i here.2 t))) (λ t.
         outcome_as l s (λ e. At l s (within 0) e) Text (beyond_plain_in_at class_of s i)
         (going_beyond_in (within 0) i (acting l s here.2 refl (text_free here.0 i h) (text_step here.0 i here.1 h t)))
@@ -175,7 +176,7 @@ module _ (l : Limits) (s : List ℕ) where
       let stop = ends (is_plain class_of) s i in
       let there : Text v o stop = text_run v o i (b, safe, here) in
       let further : i ≤ stop = ends_from (is_plain class_of) s i in
-      cond_cases (Outcome l s (Marked v o)) (has (is 60) s stop) (λ t. (there.0, there.2, t)) (λ t.
+      cond_both (has (is 60) s stop) _ _ (Outcome l s (Marked v o)) (λ t. (there.0, there.2, t)) (λ t.
       outcome_then l s (Text v o) (Marked v o) (text_at class_of fuel s) (beyond_plain_at class_of s stop)
       (text_beyond v o stop there t) (λ e w h.
       going_text v o fuel h.0 e (omega (arith, beyond_plain_on s stop class_of e w)) h.1 h.2))
@@ -201,7 +202,7 @@ module _ (l : Limits) (s : List ℕ) where
 
     note_hyphen : (h i : ℕ) → Quiet h i → At l s (note h k) i → has (is 45) s i ≡ true → At l s (note 1 k) (i + 1)
     note_hyphen zero i quiet here t = at_has l s (is 45) i here t refl (rw (has_byte (is 45) s i t))
-    note_hyphen (suc zero) i quiet here t = absurd (true≢false (sym t ∙ quiet))
+    note_hyphen (suc zero) i quiet here t = cc
     note_hyphen (suc (suc h)) i quiet here t = absurd quiet
 
     -- a run of plain bytes
@@ -224,8 +225,8 @@ module _ (l : Limits) (s : List ℕ) where
     -- `--`, and the `>`
     note_end : (i : ℕ) → Noted i → hyphens_at s i ≡ true → Outcome l s (λ e. At l s k e) (one (is 62) s (i + 2))
     note_end i here t =
-        let h1 : has (is 45) s i ≡ true = both_first (has (is 45) s i) (has (is 45) s (i + 1)) t in
-        let h2 : has (is 45) s (i + 1) ≡ true = both_second (has (is 45) s i) (has (is 45) s (i + 1)) t in
+        let h1 : has (is 45) s i ≡ true = (and_parts (has (is 45) s i) (has (is 45) s (i + 1)) t).0 in
+        let h2 : has (is 45) s (i + 1) ≡ true = (and_parts (has (is 45) s i) (has (is 45) s (i + 1)) t).1 in
         let there : At l s (note 2 k) (i + 2) =
         subst (At l s (note 2 k)) (omega arith)
         (at_has l s (is 45) (i + 1) (note_hyphen here.0 i here.1 here.2 h1) h2 refl (rw (has_byte (is 45) s (i + 1) h2))) in
@@ -236,7 +237,7 @@ module _ (l : Limits) (s : List ℕ) where
     note_beyond : (i : ℕ) → Noted i → has (is_plain_note class_of) s i ≡ false → hyphens_at s i ≡ false → Outcome l s Noted (beyond_note_at s i)
     unfolding beyond_note_at
     note_beyond i here none single =
-        cond_cases (Outcome l s Noted) (has (is 45) s i) (λ t. (1, rw t at single, note_hyphen here.0 i here.1 here.2 t)) (λ t.
+        cond_both (has (is 45) s i) _ _ (Outcome l s Noted) (λ t. (1, rw t at single, note_hyphen here.0 i here.1 here.2 t)) (λ t.
         outcome_then l s (Behind l s (note 0 k)) Noted _ (long_at s i)
         (going_long l s (note 0 k) i (acting l s here.2 refl refl
         (λ below. note_step here.0 i here.1 t below ∙ rw (fails_byte (is_plain_note class_of) s i below none)))) (λ c q h. (0, tt, h)))
@@ -248,7 +249,7 @@ module _ (l : Limits) (s : List ℕ) where
         let stop = ends (is_plain_note class_of) s i in
         let there : Noted stop = note_run i here in
         let further : i ≤ stop = ends_from (is_plain_note class_of) s i in
-        cond_cases (Outcome l s (λ e. At l s k e)) (hyphens_at s stop) (λ t. note_end stop there t) (λ t.
+        cond_both (hyphens_at s stop) _ _ (Outcome l s (λ e. At l s k e)) (λ t. note_end stop there t) (λ t.
         outcome_then l s Noted (λ e. At l s k e) (comment_at class_of fuel s) (beyond_note_at s stop)
         (note_beyond stop there (ends_fails (is_plain_note class_of) s i) t) (λ e w h.
         note_loop fuel e (omega (arith, beyond_note_on s stop e w)) h))

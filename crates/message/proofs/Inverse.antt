@@ -1,19 +1,18 @@
 -- What bytes that may follow say of the state that the machine is in: where a comment may stand markup may begin, and as many end tags as
 -- end a message are the elements that are open. Assumes nothing.
 use Prim.Native.Nat.{ℕ, zero, suc}
-use mathlib.Core.Path.{◌≡◌, refl, sym, ◌∙◌, ap}
+use mathlib.Core.Path.{◌≡◌, refl, sym, ap}
 use mathlib.Core.Bool.{Bool, true, false, cond, ◌||◌}
 use mathlib.Core.List.{List, [], ◌∷◌, ◌++◌}
 use native.Mathlib.Omega.{arith}
 use lib.ListN.{length}
 use lib.Dec.{eqb}
-use borrow.Author.Tests.{ne_eqb}
-use Rattle.laws.proofs.Tests.{true_false}
+use Rattle.std.proofs.lemmas.Bool.Decides.{nat_tests}
 use Rattle.message.specs.Class.{class_of, is_name}
 use Rattle.message.specs.Reading.{is}
 use Rattle.message.specs.Elements.{is_known}
 use Rattle.message.specs.Readable.{a_comment, end_tags, NameLike, EachNameLike}
-use Rattle.message.proofs.Laws.{cond_both}
+use Rattle.message.proofs.Laws.{on_either}
 use Rattle.message.proofs.Ways.{goes_dead}
 use Rattle.message.proofs.Bytes.{Letter, quote_no_tag, letter_not, letter_solid}
 use Rattle.message.proofs.Automaton.{Ground, first, before, behind, inside, State, ground, opened, expect, blanks, declared, version_quote, encoding_quote, versioned, encoding_name, note, second, ampersand, ampersand_a, hash, first_digit, number, name, colon, in_tag, slash, attribute, attribute_colon, quote, value, close, Next, dead, goes, rest, after, closing, step, steps}
@@ -27,7 +26,7 @@ dies_there st next x w h e = goes_dead (sym (rw (h, steps) at e))
 
 -- a byte that stands in no name is none of it
 letter_no : (b : ℕ) → (is_name class_of b || eqb b 58) ≡ false → (x : ℕ) → Letter x → is x b ≡ false
-letter_no b out x h = ne_eqb b x (λ e. true_false (ap (λ (y : ℕ). is_name class_of y || eqb y 58) e ∙ h) out)
+letter_no b out x h = grind (arith, nat_tests)
 
 -- ---- a comment
 
@@ -65,7 +64,7 @@ comment_ground (in_tag true n seen o) h next e = absurd (goes_dead (sym e))
 comment_ground (in_tag false n seen o) h next e = absurd (goes_dead (sym e))
 comment_ground (slash o) h next e = absurd (goes_dead (sym e))
 comment_ground (attribute t a n seen o) h next e =
-    absurd (no_comment (attribute t a n seen o) next (cond_both (λ (m : Next). m ≡ dead) (is_known a seen) refl refl) e)
+    absurd (no_comment (attribute t a n seen o) next (on_either (λ (m : Next). m ≡ dead) (is_known a seen) refl refl) e)
 comment_ground (attribute_colon a n seen o) h next e = absurd (goes_dead (sym e))
 comment_ground (quote n seen o) h next e = absurd (goes_dead (sym e))
 comment_ground (value q n seen o) h next e = absurd (no_comment (value q n seen o) next (rw (quote_no_tag q h.0)) e)

@@ -8,6 +8,7 @@ use native.Mathlib.Omega.{arith}
 use lib.ListN.{length, get_or}
 use lib.Dec.{ltb, eqb}
 use borrow.Author.Tests.{ltb-true, ltb-false}
+use Rattle.std.proofs.lemmas.Bool.Decides.{nat_tests}
 use Rattle.message.specs.Class.{is_start, is_name, is_space}
 use Rattle.message.specs.Reading.{Reading, ◌>>=◌, is, has, one, ends, blanks}
 use Rattle.message.specs.Reading.Reading.{whole, refused}
@@ -50,13 +51,7 @@ module _ (l l' : Limits) where
   -- k is too much for l: then for l' too, or it is within the limit that was raised
   kept_over : {A : Type 0} (n p k most most' : ℕ) → most ≤ most' → (most < most' → Raised l l' n) → (r r' : Reading A) → Kept r r'
       → Kept (cond (ltb most k) (refused n p) r) (cond (ltb most' k) (refused n p) r')
-  kept_over n p k most most' h own r r' same = go (ltb most k) refl (ltb most' k) refl
-    where
-      go : (t : Bool) → ltb most k ≡ t → (t' : Bool) → ltb most' k ≡ t' → Kept (cond t (refused n p) r) (cond t' (refused n p) r')
-      go true e true e' = inl refl
-      go true e false e' = inr (n, p, own (omega (arith, ltb-true most k e, ltb-false most' k e')), refl)
-      go false e true e' = absurd (omega (arith, ltb-false most k e, ltb-true most' k e'))
-      go false e false e' = same
+  kept_over n p k most most' h own r r' same = grind (arith, nat_tests)
 
   module _ (class : ℕ → ℕ) (s : List ℕ) (up : AtMost l l') where
     -- ---- names

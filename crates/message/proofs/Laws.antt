@@ -1,22 +1,20 @@
 -- The laws of the readers of specs/ that the proofs of the code cite. Assumes nothing.
 use Prim.Native.Nat.{ℕ, zero, suc, ◌+◌, ◌-◌, ◌<◌, ◌≤◌}
 use mathlib.Core.Path.{◌≡◌, refl, sym, ◌∙◌, ap}
-use mathlib.Core.Bool.{Bool, true, false, cond, ◌&&◌, ◌||◌, and_assoc}
+use mathlib.Core.Bool.{Bool, true, false, cond, ◌&&◌, ◌||◌}
 use mathlib.Core.List.{List, [], ◌∷◌}
-use native.Mathlib.Numerals.{add-one}
 use native.Mathlib.Nat.{add-zero}
 use native.Mathlib.Omega.{arith}
 use native.Mathlib.Decide.{dec_lt}
 use lib.ListN.{length, drop, drop_of_length-le, length-drop}
-use lib.Seq.{drop-cons}
-use lib.Dec.{ltb, leb}
-use borrow.Author.Tests.{lt-ltb, le-ltb, le-leb, lt-leb, ltb-true, leb-true}
-use Rattle.laws.proofs.Tests.{true_false, and_last}
-pub use Rattle.laws.proofs.Tests.{cond_cases}
+use lib.Dec.{ltb}
+use borrow.Author.Tests.{lt-ltb, le-ltb, ltb-true}
+use Rattle.std.proofs.lemmas.Bool.Decides.{nat_tests}
+use Rattle.std.proofs.lemmas.Bool.{and_parts, cond_both}
+use Rattle.std.proofs.lemmas.List.{drop_more}
 use Rattle.message.specs.Class.{between}
 use Rattle.message.specs.Reading.{Reading, ◌>>=◌, is, has, one, span, ends, up_to, word_at, byte_at}
 use Rattle.message.specs.Reading.Reading.{whole, refused}
-use Rattle.message.specs.Characters as characters
 use Rattle.message.specs.Text.{hyphens_at}
 
 -- ---- One reading after another: `went` is the way on after the first was whole, `stopped` the way out after it was refused. So a function's steps are
@@ -28,11 +26,6 @@ module _ {A B : Type 0} (next : A → Reading B) {a : Reading A} where
 
   pub stopped : {n p : ℕ} → a ≡ refused n p → refused n p ≡ (a >>= next)
   stopped h = rw h
-
--- two characters that end at one place and have one number
-pub same_code : {e c c' : ℕ} → c ≡ c'
-    → ◌≡◌ {A = Reading characters.Character} (whole (record { end = e; code = c })) (whole (record { end = e; code = c' }))
-same_code h = rw h
 
 -- ---- tests
 
@@ -51,20 +44,9 @@ and_false u h = rw h
 pub or_true : {t : Bool} (u : Bool) → t ≡ true → true ≡ (t || u)
 or_true u h = rw h
 
-pub or_false : {t : Bool} (u : Bool) → t ≡ false → u ≡ (t || u)
-or_false u h = rw h
-
 -- what holds on either way
-pub cond_both : {A : Type 0} (P : A → Type 0) {x y : A} (t : Bool) → P x → P y → P (cond t x y)
-cond_both P t p q = cond_cases P t (λ e. p) (λ e. q)
-
-pub both_first : (a b : Bool) → (a && b) ≡ true → a ≡ true
-both_first true b e = refl
-both_first false b e = e
-
-pub both_second : (a b : Bool) → (a && b) ≡ true → b ≡ true
-both_second true b e = e
-both_second false b e = absurd (true_false refl (sym e))
+pub on_either : {A : Type 0} (P : A → Type 0) {x y : A} (t : Bool) → P x → P y → P (cond t x y)
+on_either P t p q = cond_both t _ _ P (λ e. p) (λ e. q)
 
 -- ---- one byte, and as many as pass a test
 
@@ -100,7 +82,7 @@ module _ (test : ℕ → Bool) (s : List ℕ) (at : ℕ) where
 
   pub has_lt : has test s at ≡ true → at < length s
   unfolding has
-  has_lt e = ltb-true at (length s) (both_first (ltb at (length s)) (test (byte_at s at)) e)
+  has_lt e = ltb-true at (length s) (and_parts (ltb at (length s)) (test (byte_at s at)) e).0
 
   -- what the test says of the byte there
   pub has_byte : has test s at ≡ true → test (byte_at s at) ≡ true
@@ -124,7 +106,7 @@ module _ (test : ℕ → Bool) (s : List ℕ) (at : ℕ) where
     where
       go : (t : Bool) → has test s at ≡ t → (has test s at ≡ true) × (e ≡ at + 1)
       go true h = let z : whole (at + 1) ≡ whole e = sym (one_yes h) ∙ q in let y : at + 1 ≡ e = cc in (h, sym y)
-      go false h = let z : refused 9 at ≡ whole e = sym (one_no h) ∙ q in let y : ◌≡◌ {A = ℕ} 0 1 = cc in absurd (omega arith)
+      go false h = cc (one_no h)
 
   pub ends_le : at ≤ length s → ends test s at ≤ length s
   unfolding ends
@@ -142,7 +124,7 @@ module _ (test : ℕ → Bool) (s : List ℕ) (at : ℕ) where
   ends_more e =
       let h : at < length s = has_lt e in
       let t : test (byte_at s at) ≡ true = sym (has_in h) ∙ e in
-      rw (add-one, drop-cons s at 0 h, span_yes test (byte_at s at) (drop (suc at) s) t) (omega arith)
+      rw (drop_more s at 0 h, span_yes test (byte_at s at) (drop (at + 1) s) t) (omega arith)
 
   pub ends_stop : has test s at ≡ false → ends test s at ≡ at
   unfolding ends
@@ -150,7 +132,7 @@ module _ (test : ℕ → Bool) (s : List ℕ) (at : ℕ) where
       elim (dec_lt at (length s)) [
         | yes h ↦
             let t : test (byte_at s at) ≡ false = sym (has_in h) ∙ e in
-            rw (drop-cons s at 0 h, span_no test (byte_at s at) (drop (suc at) s) t) (omega arith)
+            rw (drop_more s at 0 h, span_no test (byte_at s at) (drop (at + 1) s) t) (omega arith)
         | no h ↦ rw (drop_of_length-le s {i = at} (omega arith), span_none test) (omega arith)
       ]
 
@@ -161,30 +143,18 @@ module _ (test : ℕ → Bool) (s : List ℕ) (at : ℕ) where
 -- ---- how many pass a test, of at most k: so a run is looked at piece by piece
 
 module _ (test : ℕ → Bool) (s : List ℕ) where
-  pub up_no : (k at : ℕ) → has test s at ≡ false → 0 ≡ up_to (suc k) test s at
-  unfolding up_to
-  up_no k at h = cond_false _ h
-
-  pub up_yes : (k at : ℕ) {n : ℕ} → has test s at ≡ true → n ≡ up_to k test s (at + 1) → suc n ≡ up_to (suc k) test s at
-  unfolding up_to
-  up_yes k at h e = ap suc e ∙ cond_true _ h
-
-  -- the same j places on
-  pub up_on : (k at j : ℕ) {n : ℕ} → has test s (at + j) ≡ true → n ≡ up_to k test s (at + suc j) → suc n ≡ up_to (suc k) test s (at + j)
-  up_on k at j h e = up_yes k (at + j) h (e ∙ ap (up_to k test s) (omega arith))
-
   -- those that pass stand in the message
   up_le : (k at : ℕ) → up_to k test s at ≤ length s - at
   unfolding up_to
   up_le zero at = omega arith
   up_le (suc k) at =
-      cond_cases (λ n. n ≤ length s - at) (has test s at) (λ t. omega (arith, up_le k (at + 1), has_lt test s at t)) (λ t. omega arith)
+      cond_both (has test s at) _ _ (λ n. n ≤ length s - at) (λ t. omega (arith, up_le k (at + 1), has_lt test s at t)) (λ t. omega arith)
 
   ends_all : (k at : ℕ) → up_to k test s at ≡ k → ends test s (at + k) ≡ ends test s at
   unfolding up_to
   ends_all zero at = λ h. rw add-zero
   ends_all (suc k) at =
-      cond_cases (λ n. n ≡ suc k → ends test s (at + suc k) ≡ ends test s at) (has test s at)
+      cond_both (has test s at) _ _ (λ n. n ≡ suc k → ends test s (at + suc k) ≡ ends test s at)
       (λ t h. ap (ends test s) (omega arith) ∙ ends_all k (at + 1) (omega arith) ∙ sym (ends_more test s at t))
       (λ t h. absurd (omega arith))
 
@@ -192,7 +162,7 @@ module _ (test : ℕ → Bool) (s : List ℕ) where
   unfolding up_to
   ends_some zero at = λ h. absurd (h refl)
   ends_some (suc k) at =
-      cond_cases (λ n. (n ≡ suc k → ⊥) → at + n ≡ ends test s at) (has test s at)
+      cond_both (has test s at) _ _ (λ n. (n ≡ suc k → ⊥) → at + n ≡ ends test s at)
       (λ t h. omega (arith, ends_some k (at + 1) (λ e. h (omega arith)), ends_more test s at t))
       (λ t h. omega (arith, ends_stop test s at t))
 
@@ -211,18 +181,17 @@ module _ (test : ℕ → Bool) (s : List ℕ) where
 -- ---- a byte of a range
 
 pub between_both : (low high x : ℕ) → between low high x ≡ true → (low ≤ x) × (x ≤ high)
-between_both low high x h =
-    (leb-true low x (both_first (leb low x) (leb x high) h), leb-true x high (both_second (leb low x) (leb x high) h))
+between_both low high x h = grind (arith, nat_tests)
 
 module _ (low high x : ℕ) where
   pub between_yes : low ≤ x → x ≤ high → between low high x ≡ true
-  between_yes l h = rw (le-leb low x l, le-leb x high h)
+  between_yes l h = grind (arith, nat_tests)
 
   pub between_below : x < low → between low high x ≡ false
-  between_below h = rw (lt-leb low x h)
+  between_below h = grind (arith, nat_tests)
 
   pub between_above : high < x → between low high x ≡ false
-  between_above h = and_last (leb low x) (lt-leb x high h)
+  between_above h = grind (arith, nat_tests)
 
 module _ (low high : ℕ) (s : List ℕ) (at : ℕ) where
   pub has_between : has (between low high) s at ≡ true → (at < length s) × (low ≤ byte_at s at) × (byte_at s at ≤ high)
@@ -237,33 +206,14 @@ module _ (low high : ℕ) (s : List ℕ) (at : ℕ) where
       let b = has_between o.0 in
       (b.0, b.1, b.2, o.1)
 
-  pub between_same : {l h : ℕ} → low ≡ l → high ≡ h → one (between low high) s at ≡ one (between l h) s at
-  between_same p q = rw (p, q)
-
 -- a test that two others make, where the first fails or passes
 module _ (f g : ℕ → Bool) (s : List ℕ) (at : ℕ) where
   pub has_or : has (λ x. f x || g x) s at ≡ (has f s at || has g s at)
   unfolding has
-  has_or = go (ltb at (length s))
-    where
-      go : (t : Bool) → (t && (f (byte_at s at) || g (byte_at s at))) ≡ ((t && f (byte_at s at)) || (t && g (byte_at s at)))
-      go true = refl
-      go false = refl
-
-  pub has_first : has f s at ≡ true → has (λ x. f x || g x) s at ≡ true
-  has_first h = has_or ∙ rw h
+  has_or = grind (arith, nat_tests)
 
   pub has_second : has f s at ≡ false → has (λ x. f x || g x) s at ≡ has g s at
   has_second h = has_or ∙ rw h
-
-  pub one_same : has f s at ≡ has g s at → one f s at ≡ one g s at
-  unfolding one
-  one_same h = rw (h, one)
-
--- a test of the byte, and one that does not look at it
-pub has_with : (test : ℕ → Bool) (u : Bool) (s : List ℕ) (at : ℕ) → has (λ x. test x && u) s at ≡ (has test s at && u)
-unfolding has
-has_with test u s at = sym (and_assoc (ltb at (length s)) (test (byte_at s at)) u)
 
 -- ---- a word, from its k-th byte on
 
@@ -274,8 +224,8 @@ module _ (w s : List ℕ) (at k : ℕ) where
 
   pub word_more : k < length w → word_at (drop k w) s at ≡ (one (is (byte_at w k)) s at >>= word_at (drop (k + 1) w) s)
   unfolding word_at
-  word_more h = rw (add-one, drop-cons w k 0 h)
+  word_more h = rw (drop_more w k 0 h)
 
 -- both bytes of `--` stand in the message
 pub hyphens_lt : (s : List ℕ) (at : ℕ) → hyphens_at s at ≡ true → at + 1 < length s
-hyphens_lt s at h = has_lt (is 45) s (at + 1) (both_second (has (is 45) s at) (has (is 45) s (at + 1)) h)
+hyphens_lt s at h = has_lt (is 45) s (at + 1) (and_parts (has (is 45) s at) (has (is 45) s (at + 1)) h).1

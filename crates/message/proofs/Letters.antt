@@ -8,6 +8,7 @@ use native.Mathlib.Omega.{arith}
 use lib.ListN.{length}
 use lib.Dec.{ltb}
 use borrow.Author.Tests.{lt-ltb, le-ltb, ltb-true, ltb-false}
+use Rattle.std.proofs.lemmas.Bool.{and_parts, cond_both}
 use Rattle.message.specs.Class.{class_of, is_text}
 use Rattle.message.specs.Reading.{Reading, ◌>>=◌, is, byte_at, has}
 use Rattle.message.specs.Reading.Reading.{whole}
@@ -18,7 +19,7 @@ use Rattle.message.specs.Values.{is_break, line_end, letter_at, attribute_letter
 use Rattle.message.specs.Meanings.{ValueSays, ContentSays}
 use Rattle.message.specs.Meanings.ValueSays.{done, pair, space, byte, special}
 use Rattle.message.specs.Meanings.ContentSays.{done as all_done, comment, pair as line-pair, line, byte as text-byte, special as text-special}
-use Rattle.message.proofs.Laws.{cond_cases, both_second, has_lt}
+use Rattle.message.proofs.Laws.{has_lt}
 use Rattle.message.proofs.Runs.{has_known}
 use Rattle.message.proofs.Breaks.{break_is, pair_is, no_break_is, is_no_break, break_cases, return_cases}
 use Rattle.message.proofs.Progress.{PastCharacter, past_whole, past_special}
@@ -31,24 +32,24 @@ use Rattle.message.proofs.Facts.{then_whole}
 module _ (class : ℕ → ℕ) (s : List ℕ) (at : ℕ) where
   line_past : at < length s → (at < line_end s at) × (line_end s at ≤ length s)
   line_past h =
-      cond_cases (λ e. (at < e) × (e ≤ length s)) (has (is 13) s at && has (is 10) s (at + 1))
-      (λ t. omega (arith, has_lt (is 10) s (at + 1) (both_second (has (is 13) s at) (has (is 10) s (at + 1)) t))) (λ t. omega arith)
+      cond_both (has (is 13) s at && has (is 10) s (at + 1)) _ _ (λ e. (at < e) × (e ≤ length s))
+      (λ t. omega (arith, has_lt (is 10) s (at + 1) (and_parts (has (is 13) s at) (has (is 10) s (at + 1)) t).1)) (λ t. omega arith)
 
   past_letter : PastCharacter (length s) at (letter_at class s at)
   unfolding letter_at
   past_letter =
-      cond_cases (PastCharacter (length s) at) (has (is_text class) s at) (λ t. omega (arith, has_lt (is_text class) s at t))
+      cond_both (has (is_text class) s at) _ _ (PastCharacter (length s) at) (λ t. omega (arith, has_lt (is_text class) s at t))
       (λ t. past_special s at at (omega arith))
 
   past_attribute_letter : PastCharacter (length s) at (attribute_letter_at class s at)
   unfolding attribute_letter_at
   past_attribute_letter =
-      cond_cases (PastCharacter (length s) at) (has is_break s at) (λ t. line_past (has_lt is_break s at t)) (λ t. past_letter)
+      cond_both (has is_break s at) _ _ (PastCharacter (length s) at) (λ t. line_past (has_lt is_break s at t)) (λ t. past_letter)
 
   past_text_letter : PastCharacter (length s) at (text_letter_at class s at)
   unfolding text_letter_at
   past_text_letter =
-      cond_cases (PastCharacter (length s) at) (has (is 13) s at) (λ t. line_past (has_lt (is 13) s at t)) (λ t. past_letter)
+      cond_both (has (is 13) s at) _ _ (PastCharacter (length s) at) (λ t. line_past (has_lt (is 13) s at t)) (λ t. past_letter)
 
   pub attribute_letter_on : {c : Character} → attribute_letter_at class s at ≡ whole c → (at < c.end) × (c.end ≤ length s)
   attribute_letter_on q = past_whole (λ c. c.end) (length s) at q past_attribute_letter

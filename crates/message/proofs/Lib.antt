@@ -17,6 +17,7 @@
 -- specs/Seven, `Meanings`, `References`, `ReferencesRead` and `BeyondAscii` specs/Meanings, and `Alphabet`, `Utf8Ranges` and `Utf8`
 -- specs/Alphabet. The files `…AtWork` and `NumbersForC` compute the examples of specs/Examples and specs/ExamplesOfMessages.
 pub mod Laws
+pub mod Said
 pub mod Digits
 pub mod Bytes
 pub mod Legal

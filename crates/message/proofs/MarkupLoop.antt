@@ -6,12 +6,13 @@ use mathlib.Core.Bool.{false, cond, ◌||◌}
 use mathlib.Core.List.{List}
 use native.Mathlib.Omega.{arith}
 use lib.ListN.{length}
+use Rattle.std.proofs.lemmas.Bool.{cond_both}
 use Rattle.message.specs.Class.{is_space, is_plain_note}
 use Rattle.message.specs.Reading.{Reading, ◌>>=◌, is_whole, is, one, ends, word_at, blanks}
 use Rattle.message.specs.Reading.Reading.{whole, refused}
 use Rattle.message.specs.Text.{hyphens_at, beyond_note_at, comment_at}
 use Rattle.message.specs.Markup.{hyphens, doctype, cdata, opens_at, bang_at, around_at}
-use Rattle.message.proofs.Laws.{cond_cases, cond_false, and_false, has_out, ends_from}
+use Rattle.message.proofs.Laws.{cond_false, and_false, has_out, ends_from}
 use Rattle.message.proofs.Progress.{PastPlace, past_then, past_whole, past_one, past_word, past_beyond_note}
 use Rattle.message.proofs.Loops.{Fuelled}
 
@@ -23,7 +24,7 @@ module _ (class : ℕ → ℕ) (s : List ℕ) where
     past_comment (suc fuel) at h =
         let stop = ends (is_plain_note class) s at in
         let on : k ≤ stop = omega (arith, ends_from (is_plain_note class) s at) in
-        cond_cases (PastPlace (length s) k) (hyphens_at s stop) (λ t. past_one s k (is 62) (stop + 2) (omega arith)) (λ t.
+        cond_both (hyphens_at s stop) _ _ (PastPlace (length s) k) (λ t. past_one s k (is 62) (stop + 2) (omega arith)) (λ t.
         past_then (λ e. e) (λ e. e) (length s) k _ (beyond_note_at s stop) (past_beyond_note s k stop on)
         (λ e p q. past_comment fuel e (omega arith)))
 
@@ -32,7 +33,7 @@ module _ (class : ℕ → ℕ) (s : List ℕ) where
     past_bang at h =
         past_then (λ e. e) (λ e. e) (length s) k _ (one (is 60) s at) (past_one s k (is 60) at h) (λ i p q.
         past_then (λ e. e) (λ e. e) (length s) k _ (one (is 33) s i) (past_one s k (is 33) i (omega arith)) (λ from p' q'.
-        cond_cases (PastPlace (length s) k) (is_whole (word_at doctype s from) || is_whole (word_at cdata s from)) (λ t. tt) (λ t.
+        cond_both (is_whole (word_at doctype s from) || is_whole (word_at cdata s from)) _ _ (PastPlace (length s) k) (λ t. tt) (λ t.
         past_then (λ e. e) (λ e. e) (length s) k _ (word_at hyphens s from) (past_word s k hyphens from p' q') (λ inside p'' q''.
         past_comment (length s) inside (omega arith)))))
 

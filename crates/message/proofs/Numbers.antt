@@ -8,13 +8,14 @@ use native.Mathlib.Omega.{arith}
 use lib.ListN.{length, get_or}
 use lib.Dec.{ltb, eqb}
 use borrow.Author.Tests.{ltb-true, ltb-false}
+use Rattle.std.proofs.lemmas.Bool.{cond_both}
 use Rattle.message.specs.Class.{is_start, is_name, is_space}
 use Rattle.message.specs.Reading.{Reading, is, has, ends, blanks}
 use Rattle.message.specs.Reading.Reading.{whole}
 use Rattle.message.specs.Names.{Named, short_at, part_at, name_at}
 use Rattle.message.specs.Limits.{Limits}
 use Rattle.message.specs.Elements.{part, Element, Start, is_known, ends_tag, fresh_at, attributes_at, with_name_at, start_at, end_part_at, end_name_at, end_tag_at, content_at, rest_at, too_deep_at, element_at, root_at, document_at}
-use Rattle.message.proofs.Laws.{cond_cases, has_lt, ends_from, ends_le, ends_out}
+use Rattle.message.proofs.Laws.{has_lt, ends_from, ends_le, ends_out}
 use Rattle.message.proofs.Progress.{past_whole}
 use Rattle.message.proofs.Trees.{one_cases, name_on, fresh_on, quoted_on, free_whole, past_start, element_on}
 use Rattle.message.proofs.ByForm.{Refuses, refuses_after, refuses_then, form_one, form_word, form_start_end, form_end, form_quoted, form_declared, form_around, form_free}
@@ -46,7 +47,7 @@ module _ (P : ℕ → Type 0) (class : ℕ → ℕ) (s : List ℕ) (l : Limits) 
   unfolding short_at
   told_short at =
       let run = ends (is_name class) s at - at in
-      cond_cases Told (ltb l.part run) (λ t. with (holds.fourteen (omega (arith, ltb-true l.part run t, run_le at)))) (λ t. never)
+      cond_both (ltb l.part run) _ _ Told (λ t. with (holds.fourteen (omega (arith, ltb-true l.part run t, run_le at)))) (λ t. never)
 
   told_part : (at : ℕ) → Told (part_at class l.part s at)
   unfolding part_at
@@ -56,7 +57,7 @@ module _ (P : ℕ → Type 0) (class : ℕ → ℕ) (s : List ℕ) (l : Limits) 
   unfolding name_at
   told_name at =
       refuses_then _ (told_part at) (λ first.
-      cond_cases Told (has (is 58) s first) (λ t. refuses_then _ (told_part (first + 1)) (λ last. never)) (λ t. never))
+      cond_both (has (is 58) s first) _ _ Told (λ t. refuses_then _ (told_part (first + 1)) (λ last. never)) (λ t. never))
 
   -- ---- start tags: each attribute takes a byte at least, so there are fewer than bytes of the message
 
@@ -65,9 +66,9 @@ module _ (P : ℕ → Type 0) (class : ℕ → ℕ) (s : List ℕ) (l : Limits) 
   told_fresh seen at p h =
       refuses_then _ (form_one P holds.nine s (is_space class) at) (λ space.
       one_cases Told (is_start class) s p _ (λ t.
-      refuses_then _ (cond_cases Told (ltb (length seen) l.attributes) (λ u. never) (λ u.
+      refuses_then _ (cond_both (ltb (length seen) l.attributes) _ _ Told (λ u. never) (λ u.
       with (holds.eleven (omega (arith, ltb-false (length seen) l.attributes u, has_lt (is_start class) s p t))))) (λ room.
-      refuses_then _ (told_name p) (λ n. cond_cases Told (is_known (part s p n.end) seen) (λ u. with holds.nine) (λ u. never))))
+      refuses_then _ (told_name p) (λ n. cond_both (is_known (part s p n.end) seen) _ _ Told (λ u. with holds.nine) (λ u. never))))
       (with holds.nine))
 
   told_attributes : (fuel : ℕ) (seen : List (List ℕ)) (at : ℕ) → length seen < at → Told (attributes_at class s l fuel seen at)
@@ -75,7 +76,7 @@ module _ (P : ℕ → Type 0) (class : ℕ → ℕ) (s : List ℕ) (l : Limits) 
   told_attributes zero seen at h = with holds.nine
   told_attributes (suc fuel) seen at h =
       let p = blanks class s at in
-      cond_cases Told (has ends_tag s p) (λ t. never) (λ t.
+      cond_both (has ends_tag s p) _ _ Told (λ t. never) (λ t.
       refuses_after _ (told_fresh seen at p (omega (arith, ends_from (is_space class) s at))) (λ e q.
       refuses_after _ (form_quoted P holds.nine s class e) (λ v r.
       told_attributes fuel (part s p e ∷ seen) (v.to + 1)
@@ -100,7 +101,7 @@ module _ (P : ℕ → Type 0) (class : ℕ → ℕ) (s : List ℕ) (l : Limits) 
   told_end_tag : (b : ℕ) (n : Named) (at : ℕ) → Told (end_tag_at class s l b n at)
   unfolding end_tag_at end_name_at
   told_end_tag b n at =
-      refuses_then _ (cond_cases Told (eqb n.local b) (λ t. told_end_part (part s b n.end) at) (λ t.
+      refuses_then _ (cond_both (eqb n.local b) _ _ Told (λ t. told_end_part (part s b n.end) at) (λ t.
       refuses_then _ (told_end_part (part s b (n.local - 1)) at) (λ i.
       refuses_then _ (form_one P holds.nine s (is 58) i) (told_end_part (part s n.local n.end)))))
       (λ i. form_one P holds.nine s (is 62) (blanks class s i))
@@ -116,13 +117,13 @@ module _ (P : ℕ → Type 0) (class : ℕ → ℕ) (s : List ℕ) (l : Limits) 
     told_content (suc fuel) at h =
         refuses_after _ (form_free P holds.nine s class holds.twelve (length s) at) (λ stop q.
         let further : k < stop = omega (arith, free_whole class s at stop q) in
-        cond_cases Told (has (is 47) s (stop + 1)) (λ t. refuses_then _ (told_end_tag st.begin st.name (stop + 2)) (λ e. never)) (λ t.
+        cond_both (has (is 47) s (stop + 1)) _ _ Told (λ t. refuses_then _ (told_end_tag st.begin st.name (stop + 2)) (λ e. never)) (λ t.
         refuses_after _ (told stop further)
         (λ e r. refuses_then _ (told_content fuel e.tag.end (omega (arith, on stop e r))) (λ c. never))))
 
     told_rest : k < st.from → Told (rest_at class s l child st)
     unfolding rest_at
-    told_rest h = cond_cases Told st.empty (λ t. never) (λ t. refuses_then _ (told_content (length s) st.from h) (λ c. never))
+    told_rest h = cond_both st.empty _ _ Told (λ t. never) (λ t. refuses_then _ (told_content (length s) st.from h) (λ c. never))
 
   told_element : (depth at : ℕ) → l.levels ≤ depth + at → Told (element_at class s l depth at)
   unfolding element_at too_deep_at
@@ -142,8 +143,8 @@ module _ (P : ℕ → Type 0) (class : ℕ → ℕ) (s : List ℕ) (l : Limits) 
   unfolding document_at root_at
   told_document at =
       let around = form_around P holds.nine s class holds.twelve (suc (length s)) in
-      cond_cases Told (ltb l.bytes (length s)) (λ t. with (holds.eight (ltb-true l.bytes (length s) t))) (λ t.
-      refuses_then _ (cond_cases Told (eqb at 0) (λ u. form_declared P holds.nine s class) (λ u. never)) (λ from.
+      cond_both (ltb l.bytes (length s)) _ _ Told (λ t. with (holds.eight (ltb-true l.bytes (length s) t))) (λ t.
+      refuses_then _ (cond_both (eqb at 0) _ _ Told (λ u. form_declared P holds.nine s class) (λ u. never)) (λ from.
       refuses_then _ (around from) (λ begin.
       refuses_then _ (told_element l.levels begin (omega arith)) (λ root.
       refuses_then _ (around root.tag.end) (λ last.

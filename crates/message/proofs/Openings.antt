@@ -10,12 +10,12 @@ use native.Mathlib.Omega.{arith}
 use lib.ListN.{length, drop, drop_of_length-le}
 use lib.Seq.{drop-cons}
 use borrow.Author.Tests.{eqb-true, not-true, not-false}
-use Rattle.laws.proofs.Tests.{either}
+use Rattle.std.proofs.lemmas.Bool.{and_parts, or_cases}
 use Rattle.message.specs.Class.{class_of, is_space}
 use Rattle.message.specs.Reading.{is_whole, is, byte_at, has, word_at}
 use Rattle.message.specs.Markup.{doctype, cdata, declares}
 use Rattle.message.specs.Limits.{Limits}
-use Rattle.message.proofs.Laws.{has_in, has_lt, has_byte, one_yes, both_first, both_second}
+use Rattle.message.proofs.Laws.{has_in, has_lt, has_byte, one_yes}
 use Rattle.message.proofs.Runs.{byte_is, word_begins}
 use Rattle.message.proofs.Automaton.{exact, exactly, Ground, first, before, behind, inside, State, ground, opened, expect, declared, version_word, comment, dead, goes, only, step, steps}
 use Rattle.message.proofs.Dues.{is_first, may_end, opening}
@@ -36,13 +36,13 @@ module _ (s : List ℕ) (st : State) (ends : may_end st ≡ true) where
       go true e q = refl
       go false e q =
           let y : dead ≡ goes st = sym (steps_dead from (byte_at s i) (drop (suc i) s) (dies (byte_at s i) e)) ∙ q in
-          let z : ◌≡◌ {A = ℕ} 0 1 = cc in absurd (omega arith)
+          cc
 
       short : goes from ≡ goes st → ⊥
       short q =
           let e : from ≡ st = cc in
           let y : false ≡ true = sym unended ∙ ap may_end e ∙ ends in
-          let z : ◌≡◌ {A = ℕ} 0 1 = cc in omega arith
+          cc
 
   -- and where a byte takes the machine on
   on : (from next : State) (test : ℕ → Bool) (i : ℕ) → has test s i ≡ true → ((x : ℕ) → test x ≡ true → step from x ≡ goes next)
@@ -91,7 +91,7 @@ module _ (s : List ℕ) (st : State) (ends : may_end st ≡ true) where
       let other = has_byte (λ x. not (is 63 x)) s i
       (passes (opened g) (λ x. not (is 63 x)) i refl (λ x e. dies x (not-false (is 63 x) e)) h) in
       let z : true ≡ false = sym (has_byte (is 63) s i question) ∙ not-true (is 63 (byte_at s i)) other in
-      let y : ◌≡◌ {A = ℕ} 0 1 = cc in omega arith
+      cc
 
   question_ends : (g : Ground) (p : ℕ) → (is_first g ≡ true → p ≡ 0) → has (is 60) s p ≡ true → has (is 63) s (p + 1) ≡ true
       → (is_first g && declares class_of s) ≡ false → steps (opened g) (drop (p + 1) s) ≡ goes st → ⊥
@@ -99,7 +99,7 @@ module _ (s : List ℕ) (st : State) (ends : may_end st ≡ true) where
   question_ends first p start opens question undeclared h =
       let at : p ≡ 0 = start refl in
       let z : true ≡ false = sym (question_declares (rw at at opens) (rw at at question) (rw at at h)) ∙ undeclared in
-      let y : ◌≡◌ {A = ℕ} 0 1 = cc in omega arith
+      cc
   question_ends before p start opens question undeclared h = question_dead before (p + 1) question (λ x e. rw (eqb-true x 63 e)) h
   question_ends behind p start opens question undeclared h = question_dead behind (p + 1) question (λ x e. rw (eqb-true x 63 e)) h
   question_ends (inside b v o) p start opens question undeclared h =
@@ -116,12 +116,12 @@ pub opening_ends : (l : Limits) (s : List ℕ) (g : Ground) (p : ℕ) → (is_fi
     → (st : State) → steps (ground g) (drop p s) ≡ goes st → may_end st ≡ true → ⊥
 opening_ends l s g p start opens op st h ends =
     ⊎_elim
-    (λ e. bang (both_first (has (is 33) s (p + 1)) _ e)
-    (either (is_whole (word_at doctype s (p + 2))) _ (both_second (has (is 33) s (p + 1)) _ e)))
-    (λ e. question_ends s st ends g p start opens (both_first (has (is 63) s (p + 1)) _ e)
-    (not-true _ (both_second (has (is 63) s (p + 1)) _ e))
+    (λ e. bang (and_parts (has (is 33) s (p + 1)) _ e).0
+    (or_cases (is_whole (word_at doctype s (p + 2))) _ (and_parts (has (is 33) s (p + 1)) _ e).1))
+    (λ e. question_ends s st ends g p start opens (and_parts (has (is 63) s (p + 1)) _ e).0
+    (not-true _ (and_parts (has (is 63) s (p + 1)) _ e).1)
     behind_it)
-    (either (has (is 33) s (p + 1) && (is_whole (word_at doctype s (p + 2)) || is_whole (word_at cdata s (p + 2)))) _ op)
+    (or_cases (has (is 33) s (p + 1) && (is_whole (word_at doctype s (p + 2)) || is_whole (word_at cdata s (p + 2)))) _ op)
   where
     behind_it : steps (opened g) (drop (p + 1) s) ≡ goes st
     behind_it = on s st ends (ground g) (opened g) (is 60) p opens (λ x e. rw e) h

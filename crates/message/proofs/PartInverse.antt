@@ -9,12 +9,14 @@ use native.Mathlib.Omega.{arith}
 use lib.ListN.{length, take}
 use lib.Dec.{leb}
 use borrow.Author.Tests.{eqb-true}
+use Rattle.std.proofs.lemmas.Bool.{and_parts}
+use Rattle.std.proofs.lemmas.Bool.Decides.{nat_tests}
 use Rattle.message.specs.Class.{class_of, is_start, is_name, is_space}
 use Rattle.message.specs.Reading.{is, byte_at, has, ends}
 use Rattle.message.specs.Limits.{Limits}
 use Rattle.message.specs.Readable.{MarkupMayBegin, FirstPart, of_start, of_end, of_attribute, PartStands}
 use Rattle.message.specs.Readable as readable
-use Rattle.message.proofs.Laws.{both_second, has_lt, has_byte, ends_more, ends_from, fails_byte}
+use Rattle.message.proofs.Laws.{has_lt, has_byte, ends_more, ends_from, fails_byte}
 use Rattle.message.proofs.Runs.{byte_is, run_keeps}
 use Rattle.message.proofs.Ways.{goes_dead, goes_same}
 use Rattle.message.proofs.Bytes.{Letter, name_letter, colon_letter, letter_not, letter_solid, colon_no_start, colon_no_name}
@@ -76,7 +78,7 @@ module _ (l : Limits) (s : List ℕ) (p : ℕ) where
     letter = name_letter (byte_at s p) (has_byte (is_name class_of) s p named)
 
     ends_opened : (g : Ground) → Ends (opened g)
-    ends_opened g = ((λ g' e. let z : ◌≡◌ {A = ℕ} 0 1 = cc in omega arith), go (is_behind g) refl (has (is_start class_of) s p) refl)
+    ends_opened g = ((λ g' e. cc), go (is_behind g) refl (has (is_start class_of) s p) refl)
       where
         go : (b : Bool) → is_behind g ≡ b → (t : Bool) → has (is_start class_of) s p ≡ t
             → (due l s (opened g) p ≡ true) ⊎ ((p < length s) × (step (opened g) (byte_at s p) ≡ dead))
@@ -85,7 +87,7 @@ module _ (l : Limits) (s : List ℕ) (p : ℕ) where
         go false e false h = inr (within, opened_step g (byte_at s p) letter ∙ rw (e, fails_byte (is_start class_of) s p within h))
 
     ends_tag_lem : (n : List ℕ) (seen o : List (List ℕ)) → Ends (in_tag true n seen o)
-    ends_tag_lem n seen o = ((λ g e. let z : ◌≡◌ {A = ℕ} 0 1 = cc in omega arith), go (has (is_start class_of) s p) refl)
+    ends_tag_lem n seen o = ((λ g e. cc), go (has (is_start class_of) s p) refl)
       where
         go : (t : Bool) → has (is_start class_of) s p ≡ t
             → (due l s (in_tag true n seen o) p ≡ true) ⊎ ((p < length s) × (step (in_tag true n seen o) (byte_at s p) ≡ dead))
@@ -94,7 +96,7 @@ module _ (l : Limits) (s : List ℕ) (p : ℕ) where
 
     -- behind a colon
     ends_colon : (n : List ℕ) (o : List (List ℕ)) → Ends (colon n o)
-    ends_colon n o = ((λ g e. let z : ◌≡◌ {A = ℕ} 0 1 = cc in omega arith), go (has (is_start class_of) s p) refl)
+    ends_colon n o = ((λ g e. cc), go (has (is_start class_of) s p) refl)
       where
         go : (t : Bool) → has (is_start class_of) s p ≡ t
             → (due l s (colon n o) p ≡ true) ⊎ ((p < length s) × (step (colon n o) (byte_at s p) ≡ dead))
@@ -102,7 +104,7 @@ module _ (l : Limits) (s : List ℕ) (p : ℕ) where
         go false h = inr (within, rw (fails_byte (is_start class_of) s p within h))
 
     ends_attribute_colon : (a n : List ℕ) (seen o : List (List ℕ)) → Ends (attribute_colon a n seen o)
-    ends_attribute_colon a n seen o = ((λ g e. let z : ◌≡◌ {A = ℕ} 0 1 = cc in omega arith), go (has (is_start class_of) s p) refl)
+    ends_attribute_colon a n seen o = ((λ g e. cc), go (has (is_start class_of) s p) refl)
       where
         go : (t : Bool) → has (is_start class_of) s p ≡ t
             → (due l s (attribute_colon a n seen o) p ≡ true) ⊎ ((p < length s) × (step (attribute_colon a n seen o) (byte_at s p) ≡ dead))
@@ -110,8 +112,8 @@ module _ (l : Limits) (s : List ℕ) (p : ℕ) where
         go false h = inr (within, rw (fails_byte (is_start class_of) s p within h))
 
     ends_closing : (v : List ℕ) (o : List (List ℕ)) → Ends (closing v true o)
-    ends_closing [] o = ((λ g e. let z : ◌≡◌ {A = ℕ} 0 1 = cc in omega arith), inr (within, closed_step true o (byte_at s p) letter))
-    ends_closing (y ∷ w) o = ((λ g e. let z : ◌≡◌ {A = ℕ} 0 1 = cc in omega arith), go (has (is y) s p) refl)
+    ends_closing [] o = ((λ g e. cc), inr (within, closed_step true o (byte_at s p) letter))
+    ends_closing (y ∷ w) o = ((λ g e. cc), go (has (is y) s p) refl)
       where
         go : (t : Bool) → has (is y) s p ≡ t
             → (due l s (closing (y ∷ w) true o) p ≡ true) ⊎ ((p < length s) × (step (closing (y ∷ w) true o) (byte_at s p) ≡ dead))
@@ -130,13 +132,7 @@ data Begun (st : State) : Type 0 where
 slash_closes : (g : Ground) (x : ℕ) (next : State) → is 47 x ≡ true → step (opened g) x ≡ goes next
     → (v : List ℕ) × (o : List (List ℕ)) × (next ≡ closing v true o)
 unfolding class_of
-slash_closes g x next h q = go g (subst (λ (y : ℕ). step (opened g) y ≡ goes next) (eqb-true x 47 h) q)
-  where
-    go : (g : Ground) → step (opened g) 47 ≡ goes next → (v : List ℕ) × (o : List (List ℕ)) × (next ≡ closing v true o)
-    go first e = absurd (goes_dead (sym e))
-    go before e = absurd (goes_dead (sym e))
-    go behind e = absurd (goes_dead (sym e))
-    go (inside b v o) e = (v, o, sym (goes_same e))
+slash_closes g x next h q = grind (arith, nat_tests)
 
 first_begun : (l : Limits) (s : List ℕ) (q : ℕ) (st : State) → At l s st q → (at : ℕ) → MarkupMayBegin (take at s) → FirstPart s at q
     → Begun st
@@ -205,7 +201,7 @@ name_goes st next x (closings v f o e) h q =
 -- no name begins with a colon
 none_begins : (t : Bool) (k next : State) → only (t && is_start class_of 58) k ≡ goes next → ⊥
 none_begins t k next q =
-    true≢false (sym (both_second t (is_start class_of 58) (only_goes (t && is_start class_of 58) k next q).0) ∙ colon_no_start)
+    true≢false (sym (and_parts t (is_start class_of 58) (only_goes (t && is_start class_of 58) k next q).0).1 ∙ colon_no_start)
 
 colon_goes : (st next : State) → InPart st → step st 58 ≡ goes next → Divided next
 colon_goes st next (begun (opens g e)) q =

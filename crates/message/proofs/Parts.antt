@@ -1,17 +1,16 @@
--- Laws of runs of bytes that are compared one by one, and of a part of the message as such a run. Assumes nothing.
+-- Laws of a part of the message, and of runs of bytes of other lengths. Assumes nothing.
 use Prim.Native.Nat.{ℕ, zero, suc, ◌+◌, ◌-◌, ◌<◌, ◌≤◌, min}
 use mathlib.Core.Path.{◌≡◌, refl, sym, ◌∙◌, ap}
-use mathlib.Core.Bool.{true, false}
+use mathlib.Core.Bool.{false}
 use mathlib.Core.List.{List, [], ◌∷◌, ◌++◌}
 use native.Mathlib.Nat.{min-le_left}
 use native.Mathlib.Numerals.{add-one}
 use native.Mathlib.Omega.{arith}
-use lib.ListN.{length, get_or, take, drop, drop_of_length-le, length-take, length-drop}
-use lib.Seq.{drop-cons, slice-cons, get_or-drop, get_or-take}
+use lib.ListN.{length, get_or, take, drop_of_length-le, length-take, length-drop}
+use lib.Seq.{slice-cons}
 use lib.Dec.{eqb}
-use borrow.Author.Tests.{eq-eqb, ne_eqb}
+use Rattle.std.proofs.lemmas.Bool.{and_right}
 use Rattle.laws.specs.Bytes.{same_bytes}
-use Rattle.laws.proofs.Tests.{and_last}
 use Rattle.message.specs.Elements.{part}
 
 -- ---- two runs of bytes
@@ -21,22 +20,7 @@ unfolding same_bytes
 other_length [] [] h = absurd (h refl)
 other_length [] (y ∷ v) h = refl
 other_length (x ∷ u) [] h = refl
-other_length (x ∷ u) (y ∷ v) h = sym (and_last (eqb x y) (sym (other_length u v (λ e. h (ap suc e)))))
-
--- from their k-th bytes on
-module _ (u v : List ℕ) (k : ℕ) where
-  pub same_on : k < length u → k < length v → get_or u k 0 ≡ get_or v k 0
-      → same_bytes (drop (k + 1) u) (drop (k + 1) v) ≡ same_bytes (drop k u) (drop k v)
-  unfolding same_bytes
-  same_on h h' q = rw (add-one, drop-cons u k 0 h, drop-cons v k 0 h', eq-eqb (get_or u k 0) (get_or v k 0) q)
-
-  pub same_differs : k < length u → k < length v → (get_or u k 0 ≡ get_or v k 0 → ⊥) → false ≡ same_bytes (drop k u) (drop k v)
-  unfolding same_bytes
-  same_differs h h' q = rw (drop-cons u k 0 h, drop-cons v k 0 h', ne_eqb (get_or u k 0) (get_or v k 0) q)
-
-  pub same_end : length u ≤ k → length v ≤ k → true ≡ same_bytes (drop k u) (drop k v)
-  unfolding same_bytes
-  same_end h h' = rw (drop_of_length-le u {i = k} h, drop_of_length-le v {i = k} h')
+other_length (x ∷ u) (y ∷ v) h = sym (and_right (eqb x y) _ (sym (other_length u v (λ e. h (ap suc e)))))
 
 -- ---- a part of the message
 
@@ -44,31 +28,11 @@ module _ (s : List ℕ) (b e : ℕ) where
   pub part_length : length (part s b e) ≡ min e (length s) - b
   part_length = length-drop b (take e s) ∙ ap (λ (n : ℕ). n - b) (length-take e s)
 
-  pub part_byte : (k : ℕ) → k < min e (length s) - b → get_or (part s b e) k 0 ≡ get_or s (b + k) 0
-  part_byte k h = get_or-drop b (take e s) k 0 ∙ get_or-take e s (b + k) 0 (omega (arith, min-le_left e (length s)))
-
   pub part_none : e ≤ b → part s b e ≡ []
   part_none h = drop_of_length-le (take e s) {i = b} (omega (arith, length-take e s, min-le_left e (length s)))
 
   pub part_some : b < e → e ≤ length s → part s b e ≡ get_or s b 0 ∷ part s (b + 1) e
   part_some h l = rw add-one (slice-cons b e s 0 h l)
-
-  -- compared with a word, where n bytes stand in the part
-  module _ (w : List ℕ) {n : ℕ} (n-is : n ≡ min e (length s) - b) where
-    pub part_other : (n ≡ length w → ⊥) → false ≡ same_bytes (part s b e) w
-    part_other h = other_length (part s b e) w (λ q. h (n-is ∙ sym part_length ∙ q))
-
-    module _ (k : ℕ) (lengths : n ≡ length w) where
-      pub part_on : k < n → get_or s (b + k) 0 ≡ get_or w k 0
-          → same_bytes (drop (k + 1) (part s b e)) (drop (k + 1) w) ≡ same_bytes (drop k (part s b e)) (drop k w)
-      part_on h q = same_on (part s b e) w k (omega (arith, part_length)) (omega arith) (part_byte k (omega arith) ∙ q)
-
-      pub part_differs : k < n → (get_or s (b + k) 0 ≡ get_or w k 0 → ⊥) → false ≡ same_bytes (drop k (part s b e)) (drop k w)
-      part_differs h q =
-          same_differs (part s b e) w k (omega (arith, part_length)) (omega arith) (λ p. q (sym (part_byte k (omega arith)) ∙ p))
-
-      pub part_end : n ≤ k → true ≡ same_bytes (drop k (part s b e)) (drop k w)
-      part_end h = same_end (part s b e) w k (omega (arith, part_length)) (omega arith)
 
 -- parted at a place within it
 pub part_split : (s : List ℕ) (b m e : ℕ) → b ≤ m → m ≤ e → e ≤ length s → part s b e ≡ part s b m ++ part s m e

@@ -1,17 +1,19 @@
 -- No step leads back to the start of a message: the machine is in its first state there, and nowhere else. Assumes nothing.
-use Prim.Native.Nat.{ℕ, zero, suc, ◌+◌, ◌*◌}
+use Prim.Native.Nat.{ℕ, zero, suc}
 use mathlib.Core.Path.{◌≡◌, refl, sym, ◌∙◌, ap, subst}
 use mathlib.Core.Bool.{Bool, true, false, not, ◌&&◌}
 use mathlib.Core.List.{List, [], ◌∷◌}
-use lib.Dec.{leb, eqb}
-use Rattle.laws.proofs.Tests.{true_false}
+use lib.Dec.{eqb}
+use Rattle.std.proofs.lemmas.Bool.{both_ways}
+use Rattle.std.proofs.lemmas.Bool.Decides.{nat_tests}
+use native.Mathlib.Omega.{arith}
 use Rattle.message.specs.Class.{class_of, between, is_start, is_name, is_space, is_text, is_plain_note}
 use Rattle.message.specs.Reading.{is, byte_at, is_quote}
-use Rattle.message.specs.Characters.{second_of_three, is_digit, digit_of, closes}
+use Rattle.message.specs.Characters.{second_of_three, is_digit, closes}
 use Rattle.message.specs.Elements.{is_known}
 use Rattle.message.specs.Limits.{Limits}
-use Rattle.message.proofs.Laws.{cond_both}
-use Rattle.message.proofs.Automaton.{Test, Ground, first, before, behind, inside, State, ground, opened, expect, blanks, declared, version_quote, encoding_quote, versioned, encoding_name, note, second, ampersand, ampersand_a, hash, first_digit, number, name, colon, in_tag, slash, attribute, attribute_colon, quote, value, close, Next, dead, goes, only, expecting, rest, after, closing, version_word, encoding_word, leads, special, between_tags, named, tag, step_note, base, numbered, digit, step_ampersand, step_in_tag, step}
+use Rattle.message.proofs.Laws.{on_either}
+use Rattle.message.proofs.Automaton.{Test, Ground, first, before, behind, inside, State, ground, opened, expect, blanks, declared, version_quote, encoding_quote, versioned, encoding_name, note, second, ampersand, ampersand_a, hash, first_digit, number, name, colon, in_tag, slash, attribute, attribute_colon, quote, value, close, Next, dead, goes, only, expecting, rest, after, closing, version_word, encoding_word, leads, special, between_tags, named, tag, step_note, base, digit, step_ampersand, step_in_tag, step}
 use Rattle.message.proofs.Dues.{is_first, state_at, At}
 use Rattle.message.proofs.Ways.{came, goes_same}
 
@@ -71,88 +73,84 @@ past_rest behind = refl
 past_rest (inside b v o) = refl
 
 past_leads : (k : State) (x : ℕ) → Past k → PastNext (leads k x)
-past_leads k x h = cond_both PastNext (between 194 223 x) h (cond_both PastNext (between 224 239 x) h (past_only (between 240 244 x) _ h))
+past_leads k x h = on_either PastNext (between 194 223 x) h (on_either PastNext (between 224 239 x) h (past_only (between 240 244 x) _ h))
 
 past_special : (k : State) (x : ℕ) → Past k → PastNext (special k x)
-past_special k x h = cond_both PastNext (is 38 x) h (past_leads k x h)
+past_special k x h = on_either PastNext (is 38 x) h (past_leads k x h)
 
 past_between : (g : Ground) (x : ℕ) → PastNext (between_tags g x)
 past_between first x = past_only (is_space class_of x) (ground before) refl
 past_between before x = past_only (is_space class_of x) (ground before) refl
 past_between behind x = past_only (is_space class_of x) (ground behind) refl
 past_between (inside b v o) x =
-    cond_both PastNext (is 93 x) refl
-    (cond_both PastNext (is_text class_of x) (cond_both PastNext (eqb b 2 && is 62 x) tt refl) (past_special (ground (inside 0 v o)) x refl))
+    on_either PastNext (is 93 x) refl
+    (on_either PastNext (is_text class_of x) (on_either PastNext (eqb b 2 && is 62 x) tt refl) (past_special (ground (inside 0 v o)) x refl))
 
 past_ground : (g : Ground) (x : ℕ) → PastNext (step (ground g) x)
-past_ground g x = cond_both PastNext (is 60 x) tt (past_between g x)
+past_ground g x = on_either PastNext (is 60 x) tt (past_between g x)
 
 past_named : (o : List (List ℕ)) (x : ℕ) → PastNext (named o x)
 past_named o x = past_only (is_start class_of x) (name false (x ∷ []) o) tt
 
 past_tag : (g : Ground) (x : ℕ) → PastNext (tag g x)
-past_tag first x = cond_both PastNext (is 63 x) tt (past_named [] x)
+past_tag first x = on_either PastNext (is 63 x) tt (past_named [] x)
 past_tag before x = past_named [] x
 past_tag behind x = tt
-past_tag (inside b v o) x = cond_both PastNext (is 47 x) (past_closing v true o) (past_named (v ∷ o) x)
+past_tag (inside b v o) x = on_either PastNext (is 47 x) (past_closing v true o) (past_named (v ∷ o) x)
 
 past_note : (h : ℕ) (k : State) (x : ℕ) → Past k → PastNext (step_note h k x)
-past_note zero k x e = cond_both PastNext (is 45 x) e (cond_both PastNext (is_plain_note class_of x) e (past_leads (note 0 k) x e))
-past_note (suc zero) k x e = cond_both PastNext (is 45 x) e (cond_both PastNext (is_plain_note class_of x) e (past_leads (note 0 k) x e))
+past_note zero k x e = on_either PastNext (is 45 x) e (on_either PastNext (is_plain_note class_of x) e (past_leads (note 0 k) x e))
+past_note (suc zero) k x e = on_either PastNext (is 45 x) e (on_either PastNext (is_plain_note class_of x) e (past_leads (note 0 k) x e))
 past_note (suc (suc h)) k x e = past_only (is 62 x) k e
 
-past_numbered : (hex : Bool) (n : ℕ) (t : Bool) (e : leb n 1114111 ≡ t) (k : State) → Past k → PastNext (numbered hex n t e k)
-past_numbered hex n true e k h = h
-past_numbered hex n false e k h = tt
-
 past_digit : (hex : Bool) (n : ℕ) (k : State) (x : ℕ) → Past k → PastNext (digit hex n k x)
-past_digit hex n k x h = past_numbered hex (n * base hex + digit_of x) (leb (n * base hex + digit_of x) 1114111) refl k h
+past_digit hex n k x h = grind (arith, nat_tests)
 
 past_ampersand : (k : State) (x : ℕ) → Past k → PastNext (step_ampersand k x)
 past_ampersand k x h =
-    cond_both PastNext (is 35 x) h
-    (cond_both PastNext (is 108 x) h
-    (cond_both PastNext (is 103 x) h (cond_both PastNext (is 113 x) h (past_only (is 97 x) (ampersand_a k) h))))
+    on_either PastNext (is 35 x) h
+    (on_either PastNext (is 108 x) h
+    (on_either PastNext (is 103 x) h (on_either PastNext (is 113 x) h (past_only (is 97 x) (ampersand_a k) h))))
 
 past_in_tag : (spaced : Bool) (n : List ℕ) (seen o : List (List ℕ)) (x : ℕ) → PastNext (step_in_tag spaced n seen o x)
 past_in_tag spaced n seen o x =
-    cond_both PastNext (is_space class_of x) tt
-    (cond_both PastNext (is 47 x) tt
-    (cond_both PastNext (is 62 x) refl (past_only (spaced && is_start class_of x) (attribute false (x ∷ []) n seen o) tt)))
+    on_either PastNext (is_space class_of x) tt
+    (on_either PastNext (is 47 x) tt
+    (on_either PastNext (is 62 x) refl (past_only (spaced && is_start class_of x) (attribute false (x ∷ []) n seen o) tt)))
 
 past_step : (st : State) (x : ℕ) → Past st → PastNext (step st x)
 unfolding class_of
 past_step (ground g) x h = past_ground g x
-past_step (opened g) x h = cond_both PastNext (is 33 x) (past_rest g) (past_tag g x)
+past_step (opened g) x h = on_either PastNext (is 33 x) (past_rest g) (past_tag g x)
 past_step (expect t ts k) x h = past_only (t.passes x) (expecting ts k) (past_expecting ts k h)
 past_step (blanks t solid ts k) x h =
-    cond_both PastNext (is_space class_of x) h (past_only (t.passes x) (expecting ts k) (past_expecting ts k h))
+    on_either PastNext (is_space class_of x) h (past_only (t.passes x) (expecting ts k) (past_expecting ts k h))
 past_step declared x h = past_only (is_space class_of x) version_word tt
-past_step version_quote x h = cond_both PastNext (is_space class_of x) tt (past_only (is_quote x) _ tt)
-past_step encoding_quote x h = cond_both PastNext (is_space class_of x) tt (past_only (is_quote x) (encoding_name x) tt)
+past_step version_quote x h = on_either PastNext (is_space class_of x) tt (past_only (is_quote x) _ tt)
+past_step encoding_quote x h = on_either PastNext (is_space class_of x) tt (past_only (is_quote x) (encoding_name x) tt)
 past_step (versioned spaced) x h =
-    cond_both PastNext (is_space class_of x) tt (cond_both PastNext (is 63 x) refl (past_only (spaced && is 101 x) encoding_word tt))
-past_step (encoding_name q) x h = cond_both PastNext (is 117 x) refl (past_only (is 85 x) _ refl)
+    on_either PastNext (is_space class_of x) tt (on_either PastNext (is 63 x) refl (past_only (spaced && is 101 x) encoding_word tt))
+past_step (encoding_name q) x h = on_either PastNext (is 117 x) refl (past_only (is 85 x) _ refl)
 past_step (note c k) x h = past_note c k x h
 past_step (second lead k) x h = past_only (second_of_three lead x) _ h
 past_step (ampersand k) x h = past_ampersand k x h
-past_step (ampersand_a k) x h = cond_both PastNext (is 109 x) h (past_only (is 112 x) _ h)
-past_step (hash k) x h = cond_both PastNext (is 120 x) h (cond_both PastNext (is_digit 10 x) (past_digit false 0 k x h) tt)
-past_step (first_digit hex k) x h = cond_both PastNext (is_digit (base hex) x) (past_digit hex 0 k x h) tt
-past_step (number hex n small k) x h = cond_both PastNext (is_digit (base hex) x) (past_digit hex n k x h) (past_only (closes n x) k h)
+past_step (ampersand_a k) x h = on_either PastNext (is 109 x) h (past_only (is 112 x) _ h)
+past_step (hash k) x h = on_either PastNext (is 120 x) h (on_either PastNext (is_digit 10 x) (past_digit false 0 k x h) tt)
+past_step (first_digit hex k) x h = on_either PastNext (is_digit (base hex) x) (past_digit hex 0 k x h) tt
+past_step (number hex n small k) x h = on_either PastNext (is_digit (base hex) x) (past_digit hex n k x h) (past_only (closes n x) k h)
 past_step (name t n o) x h =
-    cond_both PastNext (is_name class_of x) tt (cond_both PastNext (is 58 x && not t) tt (past_in_tag false n [] o x))
+    on_either PastNext (is_name class_of x) tt (on_either PastNext (is 58 x && not t) tt (past_in_tag false n [] o x))
 past_step (colon n o) x h = past_only (is_start class_of x) _ tt
 past_step (in_tag spaced n seen o) x h = past_in_tag spaced n seen o x
 past_step (slash o) x h = past_only (is 62 x) (after o) (past_after o)
 past_step (attribute t a n seen o) x h =
-    cond_both PastNext (is_name class_of x) tt
-    (cond_both PastNext (is 58 x && not t) tt (cond_both PastNext (is_known a seen) tt
-    (cond_both PastNext (is_space class_of x) tt (past_only (is 61 x) (quote n (a ∷ seen) o) tt))))
+    on_either PastNext (is_name class_of x) tt
+    (on_either PastNext (is 58 x && not t) tt (on_either PastNext (is_known a seen) tt
+    (on_either PastNext (is_space class_of x) tt (past_only (is 61 x) (quote n (a ∷ seen) o) tt))))
 past_step (attribute_colon a n seen o) x h = past_only (is_start class_of x) _ tt
-past_step (quote n seen o) x h = cond_both PastNext (is_space class_of x) tt (past_only (is_quote x) (value x n seen o) tt)
+past_step (quote n seen o) x h = on_either PastNext (is_space class_of x) tt (past_only (is_quote x) (value x n seen o) tt)
 past_step (value q n seen o) x h =
-    cond_both PastNext (is q x) tt (cond_both PastNext (is_text class_of x) tt (past_special (value q n seen o) x tt))
+    on_either PastNext (is q x) tt (on_either PastNext (is_text class_of x) tt (past_special (value q n seen o) x tt))
 past_step (close y w fresh o) x h = past_only (is y x) (closing w (is 58 y) o) (past_closing w (is 58 y) o)
 
 at_past : (l : Limits) (s : List ℕ) (i : ℕ) (st : State) → At l s st (suc i) → Past st
@@ -172,7 +170,7 @@ module _ (l : Limits) (s : List ℕ) (i : ℕ) (g : Ground) (here : At l s (grou
     where
       go : (i : ℕ) → At l s (ground g) i → is_first g ≡ true → i ≡ 0
       go zero h e = refl
-      go (suc i) h e = absurd (true_false e (at_past l s i (ground g) h))
+      go (suc i) h e = absurd (both_ways _ (at_past l s i (ground g) h) e)
 
   pub at_start : i ≡ 0 → is_first g ≡ true
   unfolding state_at

@@ -7,12 +7,13 @@ use mathlib.Core.List.{List, [], ◌∷◌}
 use native.Mathlib.Omega.{arith}
 use lib.ListN.{length}
 use lib.Dec.{leb}
+use Rattle.std.proofs.lemmas.Bool.{cond_both}
 use Rattle.message.specs.Class.{between, is_text}
 use Rattle.message.specs.Reading.{Reading, ◌>>=◌, is, byte_at, has, one, word_at}
 use Rattle.message.specs.Reading.Reading.{whole, refused}
 use Rattle.message.specs.Characters.{Character, later, second_of_three, third_of_three, second_of_four, joined, two_at, three_at, last_two_at, four_at, long_at, is_digit, digit_of, digits_at, closes, numbered_at, stands_at, predefined_at, reference_at}
 use Rattle.message.specs.Text.{special_at, bracket_at, beyond_plain_in_at, beyond_plain_at, beyond_note_at}
-use Rattle.message.proofs.Laws.{stopped, cond_false, cond_cases, has_lt, has_out, one_no}
+use Rattle.message.proofs.Laws.{stopped, cond_false, has_lt, has_out, one_no}
 
 -- what holds of all that the reading may have read
 abbrev pub Every : {A : Type 0} → (A → Type 0) → Reading A → Type 0
@@ -58,7 +59,7 @@ past_whole end n k q h = subst (Past end n k) q h
 module _ (s : List ℕ) (k : ℕ) where
   pub past_one : (test : ℕ → Bool) (at : ℕ) → k ≤ at → PastPlace (length s) k (one test s at)
   unfolding one
-  past_one test at h = cond_cases (PastPlace (length s) k) (has test s at) (λ t. omega (arith, has_lt test s at t)) (λ t. tt)
+  past_one test at h = cond_both (has test s at) _ _ (PastPlace (length s) k) (λ t. omega (arith, has_lt test s at t)) (λ t. tt)
 
   pub past_word : (word : List ℕ) (at : ℕ) → k < at → at ≤ length s → PastPlace (length s) k (word_at word s at)
   unfolding word_at
@@ -100,8 +101,8 @@ module _ (s : List ℕ) (k : ℕ) where
   pub past_long : (at : ℕ) → k ≤ at → PastCharacter (length s) k (long_at s at)
   unfolding long_at
   past_long at h =
-      cond_cases (PastCharacter (length s) k) (has (between 194 223) s at) (λ t. past_two at h) (λ t.
-      cond_cases (PastCharacter (length s) k) (has (between 224 239) s at) (λ t. past_three at h) (λ t. past_four at h))
+      cond_both (has (between 194 223) s at) _ _ (PastCharacter (length s) k) (λ t. past_two at h) (λ t.
+      cond_both (has (between 224 239) s at) _ _ (PastCharacter (length s) k) (λ t. past_three at h) (λ t. past_four at h))
 
   -- ---- references
 
@@ -110,8 +111,8 @@ module _ (s : List ℕ) (k : ℕ) where
   after_digits zero base number at h = tt
   after_digits (suc fuel) base number at h =
       let more = number * base + digit_of (byte_at s at) in
-      cond_cases (Every (λ c. k < c.end)) (has (is_digit base) s at) (λ t.
-      cond_cases (Every (λ c. k < c.end)) (leb more 1114111) (λ u. after_digits fuel base more (at + 1) (omega arith)) (λ u. tt)) (λ t. h)
+      cond_both (has (is_digit base) s at) _ _ (Every (λ c. k < c.end)) (λ t.
+      cond_both (leb more 1114111) _ _ (Every (λ c. k < c.end)) (λ u. after_digits fuel base more (at + 1) (omega arith)) (λ u. tt)) (λ t. h)
 
   past_numbered : (base at : ℕ) → k < at → PastCharacter (length s) k (numbered_at base s at)
   unfolding numbered_at
@@ -129,22 +130,22 @@ module _ (s : List ℕ) (k : ℕ) where
   past_predefined : (at : ℕ) → k < at → PastCharacter (length s) k (predefined_at s at)
   unfolding predefined_at
   past_predefined at h =
-      cond_cases (PastCharacter (length s) k) (has (is 108) s at)
+      cond_both (has (is 108) s at) _ _ (PastCharacter (length s) k)
       (λ t. past_stands (108 ∷ 116 ∷ 59 ∷ []) 60 at h (omega (arith, has_lt (is 108) s at t))) (λ t.
-      cond_cases (PastCharacter (length s) k) (has (is 103) s at)
+      cond_both (has (is 103) s at) _ _ (PastCharacter (length s) k)
       (λ u. past_stands (103 ∷ 116 ∷ 59 ∷ []) 62 at h (omega (arith, has_lt (is 103) s at u))) (λ u.
-      cond_cases (PastCharacter (length s) k) (has (is 113) s at)
+      cond_both (has (is 113) s at) _ _ (PastCharacter (length s) k)
       (λ v. past_stands (113 ∷ 117 ∷ 111 ∷ 116 ∷ 59 ∷ []) 34 at h (omega (arith, has_lt (is 113) s at v))) (λ v.
       place_then (λ c. c.end) _ (one (is 97) s at) (past_one (is 97) at (omega arith)) (λ i p q.
-      cond_cases (PastCharacter (length s) k) (has (is 109) s i) (λ w. past_stands (109 ∷ 112 ∷ 59 ∷ []) 38 i p q)
+      cond_both (has (is 109) s i) _ _ (PastCharacter (length s) k) (λ w. past_stands (109 ∷ 112 ∷ 59 ∷ []) 38 i p q)
       (λ w. past_stands (112 ∷ 111 ∷ 115 ∷ 59 ∷ []) 39 i p q)))))
 
   pub past_reference : (at : ℕ) → k ≤ at → PastCharacter (length s) k (reference_at s at)
   unfolding reference_at
   past_reference at h =
       place_then (λ c. c.end) _ (one (is 38) s at) (past_one (is 38) at h) (λ i p q.
-      cond_cases (PastCharacter (length s) k) (has (is 35) s i) (λ t.
-      cond_cases (PastCharacter (length s) k) (has (is 120) s (i + 1)) (λ u. past_numbered 16 (i + 2) (omega arith))
+      cond_both (has (is 35) s i) _ _ (PastCharacter (length s) k) (λ t.
+      cond_both (has (is 120) s (i + 1)) _ _ (PastCharacter (length s) k) (λ u. past_numbered 16 (i + 2) (omega arith))
       (λ u. past_numbered 10 (i + 1) (omega arith))) (λ t.
       past_predefined i p))
 
@@ -152,29 +153,29 @@ module _ (s : List ℕ) (k : ℕ) where
 
   pub past_special : (at : ℕ) → k ≤ at → PastCharacter (length s) k (special_at s at)
   unfolding special_at
-  past_special at h = cond_cases (PastCharacter (length s) k) (has (is 38) s at) (λ t. past_reference at h) (λ t. past_long at h)
+  past_special at h = cond_both (has (is 38) s at) _ _ (PastCharacter (length s) k) (λ t. past_reference at h) (λ t. past_long at h)
 
   past_bracket : (at : ℕ) → k ≤ at → has (is 93) s at ≡ true → PastPlace (length s) k (bracket_at s at)
   unfolding bracket_at
   past_bracket at h t =
-      cond_cases (PastPlace (length s) k) (has (is 93) s (at + 1) && has (is 62) s (at + 2)) (λ u. tt)
+      cond_both (has (is 93) s (at + 1) && has (is 62) s (at + 2)) _ _ (PastPlace (length s) k) (λ u. tt)
       (λ u. omega (arith, has_lt (is 93) s at t))
 
   pub past_beyond_plain_in : (class : ℕ → ℕ) (at : ℕ) → k ≤ at → PastPlace (length s) k (beyond_plain_in_at class s at)
   unfolding beyond_plain_in_at
   past_beyond_plain_in class at h =
-      cond_cases (PastPlace (length s) k) (has (is_text class) s at) (λ t. omega (arith, has_lt (is_text class) s at t)) (λ t.
+      cond_both (has (is_text class) s at) _ _ (PastPlace (length s) k) (λ t. omega (arith, has_lt (is_text class) s at t)) (λ t.
       past_then (λ c. c.end) (λ e. e) (length s) k _ (special_at s at) (past_special at h) (λ c p q. (p, q)))
 
   pub past_beyond_plain : (class : ℕ → ℕ) (at : ℕ) → k ≤ at → PastPlace (length s) k (beyond_plain_at class s at)
   unfolding beyond_plain_at
   past_beyond_plain class at h =
-      cond_cases (PastPlace (length s) k) (has (is 93) s at) (λ t. past_bracket at h t) (λ t. past_beyond_plain_in class at h)
+      cond_both (has (is 93) s at) _ _ (PastPlace (length s) k) (λ t. past_bracket at h t) (λ t. past_beyond_plain_in class at h)
 
   pub past_beyond_note : (at : ℕ) → k ≤ at → PastPlace (length s) k (beyond_note_at s at)
   unfolding beyond_note_at
   past_beyond_note at h =
-      cond_cases (PastPlace (length s) k) (has (is 45) s at) (λ t. omega (arith, has_lt (is 45) s at t)) (λ t.
+      cond_both (has (is 45) s at) _ _ (PastPlace (length s) k) (λ t. omega (arith, has_lt (is 45) s at t)) (λ t.
       past_then (λ c. c.end) (λ e. e) (length s) k _ (long_at s at) (past_long at h) (λ c p q. (p, q)))
 
 -- ---- what is known of a reading that was whole

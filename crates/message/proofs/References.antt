@@ -5,8 +5,8 @@ use mathlib.Core.Bool.{true, false, cond}
 use mathlib.Core.List.{List, [], ◌∷◌, ◌++◌}
 use native.Mathlib.Omega.{arith}
 use lib.ListN.{length, length-append}
-use lib.Dec.{ltb}
-use borrow.Author.Tests.{lt-ltb, le-leb, lt-leb, ne_eqb}
+use borrow.Author.Tests.{le-leb, lt-leb, ne_eqb}
+use Rattle.std.proofs.lemmas.Bool.Decides.{nat_tests}
 use Rattle.message.specs.Reading.{Reading, is, has, word_at}
 use Rattle.message.specs.Reading.Reading.{whole}
 use Rattle.message.specs.Characters.{Character, legal, digit_of, is_digit, digits_at, closes, numbered_at, stands_at, predefined_at, reference_at}
@@ -17,8 +17,7 @@ use Rattle.message.specs.Meanings.{Digit, Digits, Reference}
 use Rattle.message.specs.Meanings.Digit.{figure, capital, small}
 use Rattle.message.specs.Meanings.Digits.{first, further}
 use Rattle.message.specs.Meanings.Reference.{less, greater, ampersand, apostrophe, quotation, decimal, hexadecimal}
-use Rattle.message.proofs.Laws.{and_true, has_lt, one_yes}
-use Rattle.message.proofs.Digits.{hex_some}
+use Rattle.message.proofs.Laws.{has_lt, one_yes}
 use Rattle.message.proofs.Runs.{has_known, byte_is}
 use Rattle.message.proofs.Words.{word_first}
 use Rattle.message.proofs.Legal.{legal_small}
@@ -32,9 +31,7 @@ Counts base x d = (is_digit base x ≡ true) × (digit_of x ≡ d)
 
 -- from its place among the hexadecimal digits and what it counts for
 counts : (base x d : ℕ) → d < base → 48 ≤ x → x ≤ 102 → (57 < x → 65 ≤ x) → (70 < x → 97 ≤ x) → digit_of x ≡ d → Counts base x d
-counts base x d below low high upper lower same =
-    let within : ltb (digit_of x) base ≡ true = ap (λ (v : ℕ). ltb v base) same ∙ lt-ltb d base below in
-    (sym (and_true (ltb (digit_of x) base) (hex_some x low high upper lower)) ∙ within, same)
+counts base x d below low high upper lower same = grind (arith, nat_tests)
 
 digit_counts : {base x d : ℕ} → base ≤ 16 → Digit base x d → Counts base x d
 digit_counts {base} fits (figure d ten below) =

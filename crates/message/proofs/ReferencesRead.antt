@@ -1,13 +1,14 @@
 -- What is read behind an `&` is a reference, so no other name or number is read there. Assumes nothing.
 use Prim.Native.Nat.{ℕ, zero, suc, ◌+◌, ◌-◌, ◌*◌, ◌<◌}
 use mathlib.Core.Path.{◌≡◌, refl, sym, ◌∙◌, ap, subst}
-use mathlib.Core.Bool.{true, true≢false}
+use mathlib.Core.Bool.{true}
 use mathlib.Core.List.{List, [], ◌∷◌, ◌++◌}
 use native.Mathlib.Omega.{arith}
 use native.Mathlib.Decide.{dec_lt}
 use lib.ListN.{length, length-append}
 use lib.Dec.{leb, eqb}
 use borrow.Author.Tests.{le-leb, lt-leb, eq-eqb}
+use Rattle.std.proofs.lemmas.Bool.{and_parts, cond_both}
 use Rattle.message.specs.Reading.{is, byte_at, has, one, word_at}
 use Rattle.message.specs.Reading.Reading.{whole}
 use Rattle.message.specs.Characters.{Character, legal, digit_of, is_digit, digits_at, closes, numbered_at, stands_at, predefined_at, reference_at}
@@ -18,7 +19,7 @@ use Rattle.message.specs.Meanings.{Digit, Digits, Reference, ReferencesMean}
 use Rattle.message.specs.Meanings.Digit.{figure, capital, small}
 use Rattle.message.specs.Meanings.Digits.{first, further}
 use Rattle.message.specs.Meanings.Reference.{less, greater, ampersand, apostrophe, quotation, decimal, hexadecimal}
-use Rattle.message.proofs.Laws.{cond_cases, cond_true, has_in, has_lt, has_byte, one_has, both_first, both_second}
+use Rattle.message.proofs.Laws.{cond_true, has_in, has_lt, has_byte, one_has}
 use Rattle.message.proofs.Digits.{hex_from, hex_capital, hex_small, digit_hex, digit_below}
 use Rattle.message.proofs.Progress.{Every, every_on, every_so}
 use Rattle.message.proofs.Words.{word_before, word_joined, word_ends}
@@ -73,8 +74,8 @@ module _ (s : List ℕ) where
     counted zero n p word digits q = tt
     counted (suc fuel) n p word digits q =
         let x = byte_at s p in
-        cond_cases (Every Counted) (has (is_digit base) s p)
-        (λ t. cond_cases (Every Counted) (leb (n * base + digit_of x) 1114111)
+        cond_both (has (is_digit base) s p) _ _ (Every Counted)
+        (λ t. cond_both (leb (n * base + digit_of x) 1114111) _ _ (Every Counted)
         (λ u. counted fuel (n * base + digit_of x) (p + 1) (word ++ (x ∷ [])) (further x (digit_of x) (digit_is base x (has_byte (is_digit base) s p t)) digits)
         (word_joined s word (x ∷ []) from p (p + 1) q (last x p (itself p (has_lt (is_digit base) s p t)))))
         (λ u. tt))
@@ -86,12 +87,12 @@ module _ (s : List ℕ) where
         let x = byte_at s from in
         let one_digit : Digits base (digit_of x) (x ∷ []) = first x (digit_of x) (digit_is base x (has_byte (is_digit base) s from t)) in
         let none : digit_of x ≡ 0 * base + digit_of x = omega arith in
-        cond_cases (Every Counted) (has (is_digit base) s from)
-        (λ u. cond_cases (Every Counted) (leb (0 * base + digit_of x) 1114111)
+        cond_both (has (is_digit base) s from) _ _ (Every Counted)
+        (λ u. cond_both (leb (0 * base + digit_of x) 1114111) _ _ (Every Counted)
         (λ v. counted fuel (0 * base + digit_of x) (from + 1) (x ∷ []) (subst (λ (n : ℕ). Digits base n (x ∷ [])) none one_digit)
         (last x from (itself from (has_lt (is_digit base) s from t))))
         (λ v. tt))
-        (λ u. absurd (true≢false (sym t ∙ u)))
+        (λ u. cc)
 
     -- with the `;` behind them
     abbrev Numbered : Character → Type 0
@@ -109,10 +110,10 @@ module _ (s : List ℕ) where
         let both = has_byte (closes number.code) s number.end close.0 in
         let stands : has (is 59) s number.end ≡ true =
         has_in (is 59) s number.end (has_lt (closes number.code) s number.end close.0)
-        ∙ both_first (eqb (byte_at s number.end) 59) (legal number.code) both in (
+        ∙ (and_parts (eqb (byte_at s number.end) 59) (legal number.code) both).0 in (
           c.0,
           c.1,
-          both_second (eqb (byte_at s number.end) 59) (legal number.code) both,
+          (and_parts (eqb (byte_at s number.end) 59) (legal number.code) both).1,
           word_joined s c.0 (codes ";") from number.end e c.2 (last 59 number.end stands ∙ ap whole (sym close.1)),
         ))))
 
@@ -139,15 +140,15 @@ module _ (s : List ℕ) where
       named : Every Refers (predefined_at s i)
       unfolding predefined_at
       named =
-          cond_cases (Every Refers) (has (is 108) s i)
+          cond_both (has (is 108) s i) _ _ (Every Refers)
           (λ t. by_name (codes "&lt;") (codes "lt;") i 60 (λ e. word_before s 38 (codes "lt;") at i e opens on) less) (λ t.
-          cond_cases (Every Refers) (has (is 103) s i)
+          cond_both (has (is 103) s i) _ _ (Every Refers)
           (λ u. by_name (codes "&gt;") (codes "gt;") i 62 (λ e. word_before s 38 (codes "gt;") at i e opens on) greater) (λ u.
-          cond_cases (Every Refers) (has (is 113) s i)
+          cond_both (has (is 113) s i) _ _ (Every Refers)
           (λ v. by_name (codes "&quot;") (codes "quot;") i 34 (λ e. word_before s 38 (codes "quot;") at i e opens on) quotation) (λ v.
           every_on Refers _ (one (is 97) s i) (λ j q.
           let a = one_has (is 97) s i j q in
-          cond_cases (Every Refers) (has (is 109) s j)
+          cond_both (has (is 109) s j) _ _ (Every Refers)
           (λ w. by_name (codes "&amp;") (codes "mp;") j 38
           (λ e r. word_before s 38 (codes "amp;") at i e opens on (word_before s 97 (codes "mp;") i j e a.0 a.1 r)) ampersand)
           (λ w. by_name (codes "&apos;") (codes "pos;") j 39
@@ -179,8 +180,8 @@ module _ (s : List ℕ) where
     refers =
         every_on Refers _ (one (is 38) s at) (λ i q.
         let on = (one_has (is 38) s at i q).1 in
-        cond_cases (Every Refers) (has (is 35) s i)
-        (λ hash. cond_cases (Every Refers) (has (is 120) s (i + 1)) (in_hexadecimal i on hash) (λ plain. in_decimal i on hash))
+        cond_both (has (is 35) s i) _ _ (Every Refers)
+        (λ hash. cond_both (has (is 120) s (i + 1)) _ _ (Every Refers) (in_hexadecimal i on hash) (λ plain. in_decimal i on hash))
         (λ plain. named i on))
 
 read_reference : (s : List ℕ) (at : ℕ) (c : Character) → has (is 38) s at ≡ true → special_at s at ≡ whole c → Reference s at c

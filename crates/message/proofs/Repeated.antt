@@ -7,13 +7,14 @@ use native.Mathlib.Omega.{arith}
 use lib.ListN.{length, get_or}
 use lib.Seq.{length-slice}
 use borrow.Author.Tests.{eq-eqb, ne_eqb}
+use Rattle.std.proofs.lemmas.Bool.{cond_both}
 use Rattle.message.specs.Class.{is_name, is_space}
 use Rattle.message.specs.Reading.{Reading, ◌>>=◌, is, has, one, ends, byte_at, blanks}
 use Rattle.message.specs.Reading.Reading.{whole}
 use Rattle.message.specs.Names.{Named, short_at, name_at}
 use Rattle.message.specs.Limits.{Limits}
 use Rattle.message.specs.Elements.{part, end_part_at, end_name_at, end_tag_at}
-use Rattle.message.proofs.Laws.{cond_true, cond_false, cond_cases, has_lt, one_has, ends_from}
+use Rattle.message.proofs.Laws.{cond_true, cond_false, has_lt, one_has, ends_from}
 use Rattle.message.proofs.Runs.{byte_is}
 use Rattle.message.proofs.Trees.{name_on}
 use Rattle.message.proofs.Parts.{part_parted}
@@ -64,7 +65,7 @@ module _ (class : ℕ → ℕ) (s : List ℕ) (l : Limits) where
       let first = ends (is_name class) s b in
       let Repeats : Named → Type 0 =
       λ n. n.end ≤ length s → end_name_at class s l b n at ≡ whole i → (at ≤ i) × (part s at i ≡ part s b n.end) in
-      subst Repeats (sym (name_is class s b l.part name named).1) (cond_cases Repeats (has (is 58) s first)
+      subst Repeats (sym (name_is class s b l.part name named).1) (cond_both (has (is 58) s first) _ _ Repeats
       (λ t l' q'. end_two_parts b first (ends (is_name class) s (first + 1)) at i (ends_from (is_name class) s b)
       (omega (arith, ends_from (is_name class) s (first + 1))) l' t q' h)
       (λ t l' q'. end_one_part b first at i q' h)) within q

@@ -6,7 +6,7 @@ use mathlib.Core.List.{List, ◌∷◌}
 use native.Mathlib.Omega.{arith}
 use lib.ListN.{length}
 use borrow.Author.Tests.{le-leb, eqb-true}
-use Rattle.laws.proofs.Tests.{never}
+use Rattle.std.proofs.lemmas.Bool.{false_from_ne_true}
 use Rattle.message.specs.Class.{is_start, is_name}
 use Rattle.message.specs.Reading.{Reading, ◌>>=◌, is_whole, is, byte_at, has, ends, word_at}
 use Rattle.message.proofs.Laws.{has_in, has_lt, has_byte, one_no, ends_from, ends_more, ends_stop, ends_out}
@@ -47,7 +47,7 @@ module _ (test : ℕ → Bool) (s : List ℕ) where
   ends_fails at =
       let stop = ends test s at in
       let same : ends test s stop ≡ stop = run_keeps (λ (i : ℕ). ends test s i ≡ stop) (λ i e q. sym (ends_more test s i e) ∙ q) at refl in
-      never (has test s stop) (λ e. omega (arith, ends_more test s stop e, ends_from test s (stop + 1)))
+      false_from_ne_true (has test s stop) (λ e. omega (arith, ends_more test s stop e, ends_from test s (stop + 1)))
 
 -- what begins a name is part of it
 module _ (class : ℕ → ℕ) (s : List ℕ) (at : ℕ) (begins : has (is_start class) s at ≡ true) where

@@ -5,8 +5,8 @@ use mathlib.Core.Bool.{Bool, true, false, cond}
 use mathlib.Core.List.{List, []}
 use native.Mathlib.Omega.{arith}
 use lib.ListN.{length}
+use Rattle.std.proofs.lemmas.Bool.{both_ways, cond_both, false_from_ne_true}
 use Rattle.laws.specs.Bytes.{same_bytes}
-use Rattle.laws.proofs.Tests.{true_false, never}
 use Rattle.laws.proofs.Tails.{same_refl, same_eq}
 use Rattle.message.specs.Class.{class_of}
 use Rattle.message.specs.Reading.{Reading, ◌>>=◌, is_whole}
@@ -24,7 +24,7 @@ use Rattle.message.specs.Seven.OneOfSeven.{open_request, open_response, session_
 use Rattle.message.specs.declared.Kind.{Kind}
 use Rattle.message.specs.declared.Kind.TheVariants as kinds
 use Rattle.message.specs.declared.Message.{Message}
-use Rattle.message.proofs.Laws.{went, cond_true, cond_false, cond_cases}
+use Rattle.message.proofs.Laws.{went, cond_true, cond_false}
 use Rattle.message.proofs.Trees.{whole_same, unread}
 use Rattle.message.proofs.Facts.{then_whole, Attributed}
 use Rattle.message.proofs.ByForm.{refuses_number}
@@ -57,7 +57,7 @@ kind_word name k =
     next : (k' : Kind) {others : Reading Kind} → (others ≡ whole k → name ≡ words.kind_name k) → cond (same_bytes name (words.kind_name k')) (whole k') others ≡ whole k
         → name ≡ words.kind_name k
     next k' further =
-        cond_cases (λ r. r ≡ whole k → name ≡ words.kind_name k) (same_bytes name (words.kind_name k')) (λ t q. same_eq name (words.kind_name k') t ∙ ap words.kind_name (whole_same q)) (λ t. further)
+        cond_both (same_bytes name (words.kind_name k')) _ _ (λ r. r ≡ whole k → name ≡ words.kind_name k) (λ t q. same_eq name (words.kind_name k') t ∙ ap words.kind_name (whole_same q)) (λ t. further)
 
 -- ---- a reading that is whole or 13
 
@@ -76,17 +76,17 @@ decided_kind name =
     (next kinds.SessionOpenResponse (next kinds.SessionOk (next kinds.Ok (next kinds.Advisory (next kinds.Request (next kinds.Response thirteen))))))
   where
     next : (k : Kind) {others : Reading Kind} → Decided others → Decided (cond (same_bytes name (words.kind_name k)) (whole k) others)
-    next k others = cond_cases Decided (same_bytes name (words.kind_name k)) (λ t. read k) (λ t. others)
+    next k others = cond_both (same_bytes name (words.kind_name k)) _ _ Decided (λ t. read k) (λ t. others)
 
 module _ (s : List ℕ) where
   decided_only : (w : List ℕ) (es : Elements) → Decided (only_child s w es)
   decided_only w none = thirteen
-  decided_only w (more t inner none) = cond_cases Decided (called s w t) (λ e. read _) (λ e. thirteen)
+  decided_only w (more t inner none) = cond_both (called s w t) _ _ Decided (λ e. read _) (λ e. thirteen)
   decided_only w (more t inner (more t' inner' others)) = thirteen
 
   decided_first : (w : List ℕ) (es : Elements) → Decided (first_called s w es)
   decided_first w none = thirteen
-  decided_first w (more t inner others) = cond_cases Decided (called s w t) (λ e. read _) (λ e. decided_first w others)
+  decided_first w (more t inner others) = cond_both (called s w t) _ _ Decided (λ e. read _) (λ e. decided_first w others)
 
   -- ---- elements by their names
 
@@ -117,12 +117,12 @@ module _ (s : List ℕ) where
       go : (first_called s w others ≡ whole e → First s w others e) → (b : Bool) → called s w t ≡ b
           → cond b (whole (record { tag = t; inside = inner })) (first_called s w others) ≡ whole e → First s w (more t inner others) e
       go further true h q = subst (First s w (more t inner others)) (whole_same q) (this (same_eq (part s t.name.local t.name.end) w h))
-      go further false h q = later (λ c. true_false (called_true w t c) h) (further q)
+      go further false h q = later (λ c. both_ways _ h (called_true w t c)) (further q)
 
   called_first : (w : List ℕ) (es : Elements) (e : Element) → First s w es e → first_called s w es ≡ whole e
   called_first w _ _ (this {tag = t} c) = sym (cond_true _ (called_true w t c))
   called_first w _ e (later {tag = t} {others = others} other f) =
-      sym (cond_false _ (never (called s w t) (λ h. other (same_eq (part s t.name.local t.name.end) w h)))) ∙ called_first w others e f
+      sym (cond_false _ (false_from_ne_true (called s w t) (λ h. other (same_eq (part s t.name.local t.name.end) w h)))) ∙ called_first w others e f
 
 module _ (s : List ℕ) (l : Limits) where
   -- ---- attributes
@@ -279,7 +279,7 @@ thirteen_is_none s l p q = go (document_at class_of s l 0) refl
         → (p ≡ 0) × ((root : Element) × (document_at class_of s l 0 ≡ whole root) × ((m : Message) → OneOfSeven s root m → ⊥))
     go (whole root) e =
         let h : rest s l root ≡ refused 13 p = sym (message_is s l root e) ∙ q in
-        (place (rest s l root) (decided s l root) h, (root, e, λ m one. true_false (one_rest s l root (root_read class_of s l 0 root e) m one) (ap is_whole h)))
+        (place (rest s l root) (decided s l root) h, (root, e, λ m one. both_ways _ (ap is_whole h) (one_rest s l root (root_read class_of s l 0 root e) m one)))
     go (refused n p') e =
         let h : refused n p' ≡ refused 13 p = sym (ap (λ (d : Reading Element). d >>= (λ root. rest s l root)) e) ∙ q in
         let z : n ≡ 13 = cc in

@@ -1,21 +1,23 @@
 -- What holds in every state that the machine comes to: its names are made of bytes of names and colons, and no byte that it waits for is a
 -- `<`. Assumes nothing.
-use Prim.Native.Nat.{ℕ, zero, suc, ◌+◌, ◌*◌, ◌<◌}
+use Prim.Native.Nat.{ℕ, zero, suc, ◌<◌}
 use mathlib.Core.Path.{◌≡◌, refl, subst}
 use mathlib.Core.Bool.{Bool, true, false, cond, not, ◌&&◌}
 use mathlib.Core.List.{List, [], ◌∷◌, ◌++◌}
 use native.Mathlib.Omega.{arith}
 use lib.ListN.{length}
-use lib.Dec.{ltb, leb, eqb}
+use lib.Dec.{ltb}
+use Rattle.std.proofs.lemmas.Bool.{cond_both}
+use Rattle.std.proofs.lemmas.Bool.Decides.{nat_tests}
 use Rattle.message.specs.Class.{class_of, between, is_start, is_name, is_space, is_text, is_plain_note}
 use Rattle.message.specs.Reading.{is, is_quote, byte_at}
-use Rattle.message.specs.Characters.{second_of_three, is_digit, digit_of, closes}
+use Rattle.message.specs.Characters.{second_of_three, is_digit, closes}
 use Rattle.message.specs.Elements.{is_known}
 use Rattle.message.specs.Limits.{Limits}
 use Rattle.message.specs.Readable.{NameLike, EachNameLike}
-use Rattle.message.proofs.Laws.{cond_cases, between_below, cond_both}
+use Rattle.message.proofs.Laws.{on_either}
 use Rattle.message.proofs.Bytes.{quote_no_tag, Letter, name_letter, start_letter, colon_letter}
-use Rattle.message.proofs.Automaton.{Test, exact, Ground, first, before, behind, inside, State, ground, opened, expect, blanks, declared, version_quote, encoding_quote, versioned, encoding_name, note, second, ampersand, ampersand_a, hash, first_digit, number, name, colon, in_tag, slash, attribute, attribute_colon, quote, value, close, Next, dead, goes, expecting, rest, after, closing, leads, special, text, between_tags, named, tag, step_note, base, numbered, digit, step_ampersand, step_blanks, step_in_tag, step_attribute, step}
+use Rattle.message.proofs.Automaton.{Test, exact, Ground, first, before, behind, inside, State, ground, opened, expect, blanks, declared, version_quote, encoding_quote, versioned, encoding_name, note, second, ampersand, ampersand_a, hash, first_digit, number, name, colon, in_tag, slash, attribute, attribute_colon, quote, value, close, Next, dead, goes, expecting, rest, after, closing, leads, special, text, between_tags, named, tag, step_note, base, digit, step_ampersand, step_blanks, step_in_tag, step_attribute, step}
 use Rattle.message.proofs.Dues.{due, further, state_at, At}
 
 -- ---- the states
@@ -65,7 +67,7 @@ SaneNext (goes st) = Sane st
 -- ---- tests
 
 pub later_solid : (t : Bool) (low high : ℕ) → 60 < low → between (cond t low 128) high 60 ≡ false
-later_solid t low high h = between_below (cond t low 128) high 60 (cond_cases (λ n. 60 < n) t (λ e. h) (λ e. omega arith))
+later_solid t low high h = grind (arith, nat_tests)
 
 -- ---- names
 
@@ -95,118 +97,108 @@ closing_sane [] fresh o h = ((refl, tt), after_sane o h.1)
 closing_sane (y ∷ w) fresh o h = h
 
 leads_sane : (k : State) (x : ℕ) → Sane k → SaneNext (leads k x)
-leads_sane k x h =
-    cond_both SaneNext (between 194 223 x) ((refl, tt), h)
-    (cond_both SaneNext (between 224 239 x) h
-    (cond_both SaneNext (between 240 244 x)
-    ((later_solid (eqb x 240) 144 (cond (eqb x 244) 143 191) (omega arith), (refl, (refl, tt))), h) tt))
+leads_sane k x h = grind (arith, nat_tests)
 
 special_sane : (k : State) (x : ℕ) → Sane k → SaneNext (special k x)
-special_sane k x h = cond_both SaneNext (is 38 x) h (leads_sane k x h)
+special_sane k x h = on_either SaneNext (is 38 x) h (leads_sane k x h)
 
 text_sane : (b : ℕ) (v : List ℕ) (o : List (List ℕ)) (x : ℕ) → EachNameLike (v ∷ o) → SaneNext (text b v o x)
-text_sane b v o x h =
-    cond_both SaneNext (is 93 x) h
-    (cond_both SaneNext (is_text class_of x) (cond_both SaneNext (eqb b 2 && is 62 x) tt h) (special_sane (ground (inside 0 v o)) x h))
+text_sane b v o x h = grind (arith, nat_tests)
 
 between_sane : (g : Ground) (x : ℕ) → SaneGround g → SaneNext (between_tags g x)
-between_sane first x h = cond_both SaneNext (is_space class_of x) tt tt
-between_sane before x h = cond_both SaneNext (is_space class_of x) tt tt
-between_sane behind x h = cond_both SaneNext (is_space class_of x) tt tt
+between_sane first x h = on_either SaneNext (is_space class_of x) tt tt
+between_sane before x h = on_either SaneNext (is_space class_of x) tt tt
+between_sane behind x h = on_either SaneNext (is_space class_of x) tt tt
 between_sane (inside b v o) x h = text_sane b v o x h
 
 named_sane : (o : List (List ℕ)) (x : ℕ) → EachNameLike o → SaneNext (named o x)
-named_sane o x h = cond_cases SaneNext (is_start class_of x) (λ e. ((start_letter x e, tt), h)) (λ e. tt)
+named_sane o x h = cond_both (is_start class_of x) _ _ SaneNext (λ e. ((start_letter x e, tt), h)) (λ e. tt)
 
 tag_sane : (g : Ground) (x : ℕ) → SaneGround g → SaneNext (tag g x)
-tag_sane first x h = cond_both SaneNext (is 63 x) ((refl, (refl, (refl, tt))), tt) (named_sane [] x tt)
+tag_sane first x h = on_either SaneNext (is 63 x) ((refl, (refl, (refl, tt))), tt) (named_sane [] x tt)
 tag_sane before x h = named_sane [] x tt
 tag_sane behind x h = tt
-tag_sane (inside b v o) x h = cond_both SaneNext (is 47 x) (closing_sane v true o h) (named_sane (v ∷ o) x h)
+tag_sane (inside b v o) x h = on_either SaneNext (is 47 x) (closing_sane v true o h) (named_sane (v ∷ o) x h)
 
 note_sane : (h : ℕ) (k : State) (x : ℕ) → Sane k → SaneNext (step_note h k x)
-note_sane zero k x so = cond_both SaneNext (is 45 x) so (cond_both SaneNext (is_plain_note class_of x) so (leads_sane (note 0 k) x so))
-note_sane (suc zero) k x so = cond_both SaneNext (is 45 x) so (cond_both SaneNext (is_plain_note class_of x) so (leads_sane (note 0 k) x so))
-note_sane (suc (suc h)) k x so = cond_both SaneNext (is 62 x) so tt
-
-numbered_sane : (hex : Bool) (n : ℕ) (t : Bool) (e : leb n 1114111 ≡ t) (k : State) → Sane k → SaneNext (numbered hex n t e k)
-numbered_sane hex n true e k h = h
-numbered_sane hex n false e k h = tt
+note_sane zero k x so = on_either SaneNext (is 45 x) so (on_either SaneNext (is_plain_note class_of x) so (leads_sane (note 0 k) x so))
+note_sane (suc zero) k x so = on_either SaneNext (is 45 x) so (on_either SaneNext (is_plain_note class_of x) so (leads_sane (note 0 k) x so))
+note_sane (suc (suc h)) k x so = on_either SaneNext (is 62 x) so tt
 
 digit_sane : (hex : Bool) (n : ℕ) (k : State) (x : ℕ) → Sane k → SaneNext (digit hex n k x)
-digit_sane hex n k x h = numbered_sane hex (n * base hex + digit_of x) (leb (n * base hex + digit_of x) 1114111) refl k h
+digit_sane hex n k x h = grind (arith, nat_tests)
 
 ampersand_sane : (k : State) (x : ℕ) → Sane k → SaneNext (step_ampersand k x)
 ampersand_sane k x h =
-    cond_both SaneNext (is 35 x) h
-    (cond_both SaneNext (is 108 x) ((refl, (refl, tt)), h)
-    (cond_both SaneNext (is 103 x) ((refl, (refl, tt)), h)
-    (cond_both SaneNext (is 113 x) ((refl, (refl, (refl, (refl, tt)))), h) (cond_both SaneNext (is 97 x) h tt))))
+    on_either SaneNext (is 35 x) h
+    (on_either SaneNext (is 108 x) ((refl, (refl, tt)), h)
+    (on_either SaneNext (is 103 x) ((refl, (refl, tt)), h)
+    (on_either SaneNext (is 113 x) ((refl, (refl, (refl, (refl, tt)))), h) (on_either SaneNext (is 97 x) h tt))))
 
 blanks_sane : (t : Test) (solid : is_space class_of t.sample ≡ false) (ts : List Test) (k : State) (x : ℕ) → Solid (t ∷ ts) → Sane k
     → SaneNext (step_blanks t solid ts k x)
 blanks_sane t solid ts k x h so =
-    cond_both SaneNext (is_space class_of x) (h, so) (cond_both SaneNext (t.passes x) (expecting_sane ts k h.1 so) tt)
+    on_either SaneNext (is_space class_of x) (h, so) (on_either SaneNext (t.passes x) (expecting_sane ts k h.1 so) tt)
 
 in_tag_sane : (spaced : Bool) (n : List ℕ) (seen o : List (List ℕ)) (x : ℕ) → EachNameLike (n ∷ o) → SaneNext (step_in_tag spaced n seen o x)
 in_tag_sane spaced n seen o x h =
-    cond_both SaneNext (is_space class_of x) h
-    (cond_both SaneNext (is 47 x) h.1 (cond_both SaneNext (is 62 x) h (cond_both SaneNext (spaced && is_start class_of x) h tt)))
+    on_either SaneNext (is_space class_of x) h
+    (on_either SaneNext (is 47 x) h.1 (on_either SaneNext (is 62 x) h (on_either SaneNext (spaced && is_start class_of x) h tt)))
 
 attribute_sane : (t : Bool) (a n : List ℕ) (seen o : List (List ℕ)) (x : ℕ) → EachNameLike (n ∷ o) → SaneNext (step_attribute t a n seen o x)
 unfolding class_of
 attribute_sane t a n seen o x h =
-    cond_both SaneNext (is_name class_of x) h
-    (cond_both SaneNext (is 58 x && not t) h
-    (cond_both SaneNext (is_known a seen) tt (blanks_sane (exact 61) _ [] (quote n (a ∷ seen) o) x (refl, tt) h)))
+    on_either SaneNext (is_name class_of x) h
+    (on_either SaneNext (is 58 x && not t) h
+    (on_either SaneNext (is_known a seen) tt (blanks_sane (exact 61) _ [] (quote n (a ∷ seen) o) x (refl, tt) h)))
 
 next_sane : (st : State) (x : ℕ) → Sane st → SaneNext (step st x)
 unfolding class_of
-next_sane (ground g) x h = cond_both SaneNext (is 60 x) h (between_sane g x h)
-next_sane (opened g) x h = cond_both SaneNext (is 33 x) ((refl, (refl, tt)), rest_sane g h) (tag_sane g x h)
-next_sane (expect t ts k) x h = cond_both SaneNext (t.passes x) (expecting_sane ts k h.0.1 h.1) tt
+next_sane (ground g) x h = on_either SaneNext (is 60 x) h (between_sane g x h)
+next_sane (opened g) x h = on_either SaneNext (is 33 x) ((refl, (refl, tt)), rest_sane g h) (tag_sane g x h)
+next_sane (expect t ts k) x h = on_either SaneNext (t.passes x) (expecting_sane ts k h.0.1 h.1) tt
 next_sane (blanks t solid ts k) x h = blanks_sane t solid ts k x h.0 h.1
 next_sane declared x h =
-    cond_both SaneNext (is_space class_of x) ((refl, (refl, (refl, (refl, (refl, (refl, (refl, tt))))))), ((refl, tt), tt)) tt
+    on_either SaneNext (is_space class_of x) ((refl, (refl, (refl, (refl, (refl, (refl, (refl, tt))))))), ((refl, tt), tt)) tt
 next_sane version_quote x h =
-    cond_both SaneNext (is_space class_of x) tt
-    (cond_cases SaneNext (is_quote x) (λ e. ((refl, (refl, (refl, (quote_no_tag x e, tt)))), tt)) (λ e. tt))
-next_sane encoding_quote x h = cond_both SaneNext (is_space class_of x) tt (cond_cases SaneNext (is_quote x) (λ e. e) (λ e. tt))
+    on_either SaneNext (is_space class_of x) tt
+    (cond_both (is_quote x) _ _ SaneNext (λ e. ((refl, (refl, (refl, (quote_no_tag x e, tt)))), tt)) (λ e. tt))
+next_sane encoding_quote x h = on_either SaneNext (is_space class_of x) tt (cond_both (is_quote x) _ _ SaneNext (λ e. e) (λ e. tt))
 next_sane (versioned spaced) x h =
-    cond_both SaneNext (is_space class_of x) tt
-    (cond_both SaneNext (is 63 x) ((refl, tt), tt)
-    (cond_both SaneNext (spaced && is 101 x) ((refl, (refl, (refl, (refl, (refl, (refl, (refl, tt))))))), ((refl, tt), tt)) tt))
+    on_either SaneNext (is_space class_of x) tt
+    (on_either SaneNext (is 63 x) ((refl, tt), tt)
+    (on_either SaneNext (spaced && is 101 x) ((refl, (refl, (refl, (refl, (refl, (refl, (refl, tt))))))), ((refl, tt), tt)) tt))
 next_sane (encoding_name q) x h =
-    cond_both SaneNext (is 117 x) ((refl, (refl, (refl, (refl, (quote_no_tag q h, tt))))), ((refl, (refl, tt)), tt))
-    (cond_both SaneNext (is 85 x) ((refl, (refl, (refl, (refl, (quote_no_tag q h, tt))))), ((refl, (refl, tt)), tt)) tt)
+    on_either SaneNext (is 117 x) ((refl, (refl, (refl, (refl, (quote_no_tag q h, tt))))), ((refl, (refl, tt)), tt))
+    (on_either SaneNext (is 85 x) ((refl, (refl, (refl, (refl, (quote_no_tag q h, tt))))), ((refl, (refl, tt)), tt)) tt)
 next_sane (note hyphens k) x h = note_sane hyphens k x h
-next_sane (second lead k) x h = cond_both SaneNext (second_of_three lead x) ((refl, tt), h) tt
+next_sane (second lead k) x h = on_either SaneNext (second_of_three lead x) ((refl, tt), h) tt
 next_sane (ampersand k) x h = ampersand_sane k x h
 next_sane (ampersand_a k) x h =
-    cond_both SaneNext (is 109 x) ((refl, (refl, tt)), h) (cond_both SaneNext (is 112 x) ((refl, (refl, (refl, tt))), h) tt)
-next_sane (hash k) x h = cond_both SaneNext (is 120 x) h (cond_both SaneNext (is_digit 10 x) (digit_sane false 0 k x h) tt)
-next_sane (first_digit hex k) x h = cond_both SaneNext (is_digit (base hex) x) (digit_sane hex 0 k x h) tt
+    on_either SaneNext (is 109 x) ((refl, (refl, tt)), h) (on_either SaneNext (is 112 x) ((refl, (refl, (refl, tt))), h) tt)
+next_sane (hash k) x h = on_either SaneNext (is 120 x) h (on_either SaneNext (is_digit 10 x) (digit_sane false 0 k x h) tt)
+next_sane (first_digit hex k) x h = on_either SaneNext (is_digit (base hex) x) (digit_sane hex 0 k x h) tt
 next_sane (number hex n small k) x h =
-    cond_both SaneNext (is_digit (base hex) x) (digit_sane hex n k x h) (cond_both SaneNext (closes n x) h tt)
+    on_either SaneNext (is_digit (base hex) x) (digit_sane hex n k x h) (on_either SaneNext (closes n x) h tt)
 next_sane (name t n o) x h =
-    cond_cases SaneNext (is_name class_of x) (λ e. (longer n x h.0 (name_letter x e), h.1))
-    (λ e. cond_both SaneNext (is 58 x && not t) (longer n 58 h.0 colon_letter, h.1) (in_tag_sane false n [] o x h))
-next_sane (colon n o) x h = cond_cases SaneNext (is_start class_of x) (λ e. (longer n x h.0 (start_letter x e), h.1)) (λ e. tt)
+    cond_both (is_name class_of x) _ _ SaneNext (λ e. (longer n x h.0 (name_letter x e), h.1))
+    (λ e. on_either SaneNext (is 58 x && not t) (longer n 58 h.0 colon_letter, h.1) (in_tag_sane false n [] o x h))
+next_sane (colon n o) x h = cond_both (is_start class_of x) _ _ SaneNext (λ e. (longer n x h.0 (start_letter x e), h.1)) (λ e. tt)
 next_sane (in_tag spaced n seen o) x h = in_tag_sane spaced n seen o x h
-next_sane (slash o) x h = cond_both SaneNext (is 62 x) (after_sane o h) tt
+next_sane (slash o) x h = on_either SaneNext (is 62 x) (after_sane o h) tt
 next_sane (attribute t a n seen o) x h = attribute_sane t a n seen o x h
-next_sane (attribute_colon a n seen o) x h = cond_both SaneNext (is_start class_of x) h tt
-next_sane (quote n seen o) x h = cond_both SaneNext (is_space class_of x) h (cond_cases SaneNext (is_quote x) (λ e. (e, h)) (λ e. tt))
+next_sane (attribute_colon a n seen o) x h = on_either SaneNext (is_start class_of x) h tt
+next_sane (quote n seen o) x h = on_either SaneNext (is_space class_of x) h (cond_both (is_quote x) _ _ SaneNext (λ e. (e, h)) (λ e. tt))
 next_sane (value q n seen o) x h =
-    cond_both SaneNext (is q x) h.1 (cond_both SaneNext (is_text class_of x) h (special_sane (value q n seen o) x h))
-next_sane (close y w fresh o) x h = cond_both SaneNext (is y x) (closing_sane w (is 58 y) o (h.0.1, h.1)) tt
+    on_either SaneNext (is q x) h.1 (on_either SaneNext (is_text class_of x) h (special_sane (value q n seen o) x h))
+next_sane (close y w fresh o) x h = on_either SaneNext (is y x) (closing_sane w (is 58 y) o (h.0.1, h.1)) tt
 
 -- ---- many steps
 
 module _ (l : Limits) (s : List ℕ) where
   further_sane : (n : Next) (i : ℕ) → SaneNext n → SaneNext (further l s n i)
   further_sane dead i h = tt
-  further_sane (goes st) i h = cond_both SaneNext (ltb i (length s) && not (due l s st i)) (next_sane st (byte_at s i) h) tt
+  further_sane (goes st) i h = on_either SaneNext (ltb i (length s) && not (due l s st i)) (next_sane st (byte_at s i) h) tt
 
   all_sane : (i : ℕ) → SaneNext (state_at l s i)
   unfolding state_at

@@ -8,7 +8,7 @@ use native.Mathlib.Omega.{arith}
 use lib.ListN.{length, take}
 use lib.Dec.{leb}
 use borrow.Author.Tests.{leb-false}
-use Rattle.laws.proofs.Tests.{neither}
+use Rattle.std.proofs.lemmas.Bool.{or_parts}
 use Rattle.message.specs.Class.{class_of, is_start, is_space}
 use Rattle.message.specs.Reading.{Reading, is, byte_at, has, blanks}
 use Rattle.message.specs.Reading.Reading.{whole, refused}
@@ -102,7 +102,7 @@ module _ (l : Limits) (s : List ℕ) (p : ℕ) (st : State) (here : At l s st p)
             let x = (goes_at (at + 1) (opened behind) h less).1 in
             let y : dead ≡ goes x.0 =
             sym (rw (fails_byte (is 33) s (at + 1) (has_lt (is_start class_of) s (at + 1) starts) (none 33 refl))) ∙ x.1 in
-            let z : ◌≡◌ {A = ℕ} 0 1 = cc in absurd (omega arith)
+            cc
         go (inside b v os) h = refl
 
     place : Place l s o.from at
@@ -110,7 +110,7 @@ module _ (l : Limits) (s : List ℕ) (p : ℕ) (st : State) (here : At l s st p)
     place = record {
       here = o.marked;
       front = front;
-      lost = λ within h. absurd (true≢false (sym tag ∙ h));
+      lost = λ within h. cc;
       no_bang = λ h. none 33 refl;
       no_question = λ h. none 63 refl;
       no_slash = λ h. slashes o.from;
@@ -128,7 +128,7 @@ module _ (l : Limits) (s : List ℕ) (p : ℕ) (st : State) (here : At l s st p)
         go : (t : Bool) → leb l.levels (depth o.from) ≡ t → t ≡ false
         go true e =
             let deep : too_deep l s o.from at ≡ false =
-            (neither (opening l s o.from at) (too_deep l s o.from at) (and_true _ tag ∙ o.free)).1 in
+            (or_parts (opening l s o.from at) (too_deep l s o.from at) (and_true _ tag ∙ o.free)).1 in
             absurd (true≢false (sym (rw (e, front, starts)) ∙ deep))
         go false e = refl
 
@@ -167,7 +167,7 @@ module _ (l : Limits) (s : List ℕ) (p : ℕ) (st : State) (here : At l s st p)
       room_there : leb l.attributes (length seen) ≡ false
       room_there =
           let free = (goes_at q (in_tag true n seen o) (spaced l s n o seen last tagged stands.space) (omega (arith, on.1, on.2))).0 in
-          (neither (leb l.attributes (length seen)) (long l s q) (and_true _ begins ∙ free)).0
+          (or_parts (leb l.attributes (length seen)) (long l s q) (and_true _ begins ∙ free)).0
 
       fresh_there : Fresh l s n o seen last tagged no_end e
       fresh_there =

@@ -7,13 +7,14 @@ use native.Mathlib.Omega.{arith}
 use lib.ListN.{length, get_or}
 use lib.Dec.{ltb, eqb}
 use borrow.Author.Tests.{ltb-true}
+use Rattle.std.proofs.lemmas.Bool.{cond_both}
 use Rattle.message.specs.Class.{is_start, is_name, is_space, is_plain}
 use Rattle.message.specs.Reading.{Reading, ◌>>=◌, is, byte_at, has, one, ends, blanks, equals_at, opened_at, is_quote}
 use Rattle.message.specs.Reading.Reading.{whole, refused}
 use Rattle.message.specs.Names.{Named, short_at, part_at, name_at}
 use Rattle.message.specs.Text.{beyond_plain_at, beyond_plain_in_at, text_at, value_at}
 use Rattle.message.specs.Markup.{bang_at}
-use Rattle.message.proofs.Laws.{cond_cases, has_lt, has_out, ends_from, ends_le, ends_out, one_yes, one_no, stopped}
+use Rattle.message.proofs.Laws.{has_lt, has_out, ends_from, ends_le, ends_out, one_yes, one_no, stopped}
 use Rattle.message.proofs.Runs.{start_in_name}
 use Rattle.message.proofs.Progress.{Every, every_then, every_on, every_so, Past, past_then, past_whole, past_one, past_word, past_beyond_plain, past_beyond_plain_in, beyond_plain_out}
 use Rattle.message.proofs.MarkupLoop.{past_bang}
@@ -25,7 +26,7 @@ whole_same e = cc
 
 -- what was refused was not whole
 pub unread : {A B : Type 0} {x : A} {n p : ℕ} → refused n p ≡ whole x → B
-unread e = let z : ◌≡◌ {A = ℕ} 0 1 = cc in absurd (omega arith)
+unread e = cc
 
 -- what holds of one byte and then another reading
 pub one_cases : {B : Type 0} (P : Reading B → Type 0) (test : ℕ → Bool) (s : List ℕ) (at : ℕ) (next : ℕ → Reading B)
@@ -67,14 +68,14 @@ module _ (class : ℕ → ℕ) (s : List ℕ) (k : ℕ) where
   unfolding part_at short_at
   past_part most at h =
       one_cases (Behind s k place) (is_start class) s at (λ next. short_at class most s at) (λ t.
-      cond_cases (Behind s k place) (ltb most (ends (is_name class) s at - at)) (λ u. tt) (λ u.
+      cond_both (ltb most (ends (is_name class) s at - at)) _ _ (Behind s k place) (λ u. tt) (λ u.
       omega (arith, start_in_name class s at t, ends_le (is_name class) s at (omega (arith, has_lt (is_start class) s at t))))) tt
 
   pub past_name : (most at : ℕ) → k ≤ at → Behind s k (λ n. n.end) (name_at class most s at)
   unfolding name_at
   past_name most at h =
       past_then place (λ n. n.end) (length s) k _ (part_at class most s at) (past_part most at h) (λ first p q.
-      cond_cases (Behind s k (λ n. n.end)) (has (is 58) s first)
+      cond_both (has (is 58) s first) _ _ (Behind s k (λ n. n.end))
       (λ t. past_then place (λ n. n.end) (length s) k _ (part_at class most s (first + 1)) (past_part most (first + 1) (omega arith)) (λ last p' q'. (p', q')))
       (λ t. (p, q)))
 
@@ -96,7 +97,7 @@ module _ (class : ℕ → ℕ) (s : List ℕ) (k : ℕ) where
   value_stops (suc fuel) quote at h =
       let stop = ends (is_plain class) s at in
       let on : k ≤ stop = omega (arith, ends_from (is_plain class) s at) in
-      cond_cases (Every (λ to. (k ≤ to) × (to < length s))) (has (is quote) s stop) (λ t. (on, has_lt (is quote) s stop t)) (λ t.
+      cond_both (has (is quote) s stop) _ _ (Every (λ to. (k ≤ to) × (to < length s))) (λ t. (on, has_lt (is quote) s stop t)) (λ t.
       every_then (λ e. (k < e) × (e ≤ length s)) (λ to. (k ≤ to) × (to < length s)) _ (beyond_plain_in_at class s stop) (past_beyond_plain_in s k class stop on) (λ e p.
       value_stops fuel quote e (omega (arith, p.0))))
 
@@ -112,7 +113,7 @@ module _ (class : ℕ → ℕ) (s : List ℕ) (k : ℕ) where
   text_stops (suc fuel) at h =
       let stop = ends (is_plain class) s at in
       let on : k ≤ stop = omega (arith, ends_from (is_plain class) s at) in
-      cond_cases AtTag (has (is 60) s stop) (λ t. (on, t)) (λ t.
+      cond_both (has (is 60) s stop) _ _ AtTag (λ t. (on, t)) (λ t.
       every_then (λ e. (k < e) × (e ≤ length s)) (Stops s k) _ (beyond_plain_at class s stop) (past_beyond_plain s k class stop on) (λ e p.
       text_stops fuel e (omega (arith, p.0))))
 
@@ -121,10 +122,10 @@ module _ (class : ℕ → ℕ) (s : List ℕ) (k : ℕ) where
   free_stops zero at h = tt
   free_stops (suc fuel) at h =
       every_then (Stops s k) (Stops s k) _ (text_at class (length s) s at) (text_stops (length s) at h) (λ stop p.
-      cond_cases AtTag (has (is 33) s (stop + 1))
+      cond_both (has (is 33) s (stop + 1)) _ _ AtTag
       (λ t. every_then (λ e. (k < e) × (e ≤ length s)) (Stops s k) _ (bang_at class s stop) (past_bang class s k stop p.0)
       (λ e q. free_stops fuel e (omega (arith, q.0))))
-      (λ t. cond_cases AtTag (has (is 63) s (stop + 1)) (λ u. tt) (λ u. p)))
+      (λ t. cond_both (has (is 63) s (stop + 1)) _ _ AtTag (λ u. tt) (λ u. p)))
 
 -- ---- what is known of a reading that was whole
 
@@ -167,9 +168,9 @@ module _ (class : ℕ → ℕ) (s : List ℕ) where
       one_cases (Every (Fresh l seen at p)) (is_space class) s at _ (λ space.
       every_on (Fresh l seen at p) _ (one (is_start class) s p) (λ begin q.
       every_then (λ room. length seen < l.attributes) (Fresh l seen at p) _ (cond (ltb (length seen) l.attributes) (whole p) (refused 11 p)) (
-      cond_cases (Every (λ room. length seen < l.attributes)) (ltb (length seen) l.attributes) (λ t. ltb-true (length seen) l.attributes t) (λ t. tt)) (λ p' room.
+      cond_both (ltb (length seen) l.attributes) _ _ (Every (λ room. length seen < l.attributes)) (λ t. ltb-true (length seen) l.attributes t) (λ t. tt)) (λ p' room.
       every_on (Fresh l seen at p) _ (name_at class l.part s p) (λ name named.
-      cond_cases (Every (Fresh l seen at p)) (is_known (part s p name.end) seen) (λ t. tt) (λ t.
+      cond_both (is_known (part s p name.end) seen) _ _ (Every (Fresh l seen at p)) (λ t. tt) (λ t.
       record { space = space; room = room; name = name; named = named; ends = refl }))))) tt
 
   pub fresh_whole : (l : Limits) (seen : List (List ℕ)) (at p e : ℕ) → fresh_at class s l seen at p ≡ whole e → Fresh l seen at p e
@@ -204,7 +205,7 @@ module _ (class : ℕ → ℕ) (s : List ℕ) (k : ℕ) where
   past_start_end : (b : ℕ) (n : Named) (at : ℕ) → k < at → Behind s k (λ st. st.from) (start_end_at s b n at)
   unfolding start_end_at
   past_start_end b n at h =
-      cond_cases (Behind s k (λ st. st.from)) (has (is 47) s at)
+      cond_both (has (is 47) s at) _ _ (Behind s k (λ st. st.from))
       (λ t. past_then place (λ st. st.from) (length s) k _ (one (is 62) s (at + 1)) (past_one s k (is 62) (at + 1) (omega arith)) (λ i p q. (p, q)))
       (λ t. past_then place (λ st. st.from) (length s) k _ (one (is 62) s at) (past_one s k (is 62) at (omega arith)) (λ i p q. (p, q)))
 
@@ -220,7 +221,7 @@ module _ (class : ℕ → ℕ) (s : List ℕ) (k : ℕ) where
     past_attributes (suc fuel) seen at h =
         let p = blanks class s at in
         let on : k < p = omega (arith, ends_from (is_space class) s at) in
-        cond_cases (Behind s k place) (has ends_tag s p) (λ t. (on, omega (arith, has_lt ends_tag s p t)))
+        cond_both (has ends_tag s p) _ _ (Behind s k place) (λ t. (on, omega (arith, has_lt ends_tag s p t)))
         (λ t. past_then place place (length s) k _ (fresh_at class s l seen at p) (past_fresh seen at p on) (λ e q q'.
         past_then (λ v. v.to) place (length s) k _ (quoted_at class s e) (past_quoted e q)
         (λ v r r'. past_attributes fuel (part s p e ∷ seen) (v.to + 1) (omega arith))))
@@ -247,7 +248,7 @@ module _ (class : ℕ → ℕ) (s : List ℕ) (k : ℕ) where
     past_end_name : (b : ℕ) (n : Named) (at : ℕ) → k < at → Behind s k place (end_name_at class s l b n at)
     unfolding end_name_at
     past_end_name b n at h =
-        cond_cases (Behind s k place) (eqb n.local b) (λ t. past_end_part (part s b n.end) at h) (λ t.
+        cond_both (eqb n.local b) _ _ (Behind s k place) (λ t. past_end_part (part s b n.end) at h) (λ t.
         past_then place place (length s) k _ (end_part_at class s l (part s b (n.local - 1)) at) (past_end_part (part s b (n.local - 1)) at h) (λ i p q.
         past_then place place (length s) k _ (one (is 58) s i) (past_one s k (is 58) i (omega arith)) (λ j p' q'. past_end_part (part s n.local n.end) j p')))
 
@@ -265,7 +266,7 @@ module _ (class : ℕ → ℕ) (s : List ℕ) (k : ℕ) where
       past_content zero at h = tt
       past_content (suc fuel) at h =
           every_then (Stops s k) (λ c. (k < c.end) × (c.end ≤ length s)) _ (free_at class s (length s) at) (free_stops class s k (length s) at (omega arith)) (λ stop p.
-          cond_cases (Behind s k (λ c. c.end)) (has (is 47) s (stop + 1))
+          cond_both (has (is 47) s (stop + 1)) _ _ (Behind s k (λ c. c.end))
           (λ t. past_then place (λ c. c.end) (length s) k _ (end_tag_at class s l start.begin start.name (stop + 2))
           (past_end_tag start.begin start.name (stop + 2) (omega (arith, p.0))) (λ e q q'. (q, q')))
           (λ t. past_then (λ e. e.tag.end) (λ c. c.end) (length s) k _ (child stop) (grows stop p.0) (λ e q q'.
@@ -275,7 +276,7 @@ module _ (class : ℕ → ℕ) (s : List ℕ) (k : ℕ) where
       past_rest : k < start.from → start.from ≤ length s → Behind s k (λ e. e.tag.end) (rest_at class s l child start)
       unfolding rest_at
       past_rest h l' =
-          cond_cases (Behind s k (λ e. e.tag.end)) start.empty (λ t. (h, l'))
+          cond_both start.empty _ _ (Behind s k (λ e. e.tag.end)) (λ t. (h, l'))
           (λ t. past_then (λ c. c.end) (λ e. e.tag.end) (length s) k _ (content_at class s l (length s) child start start.from)
           (past_content (length s) start.from h) (λ c p q. (p, q)))
 

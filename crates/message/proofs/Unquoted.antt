@@ -2,20 +2,20 @@
 -- Assumes nothing.
 use Prim.Native.Nat.{ℕ, zero, suc, ◌+◌, ◌*◌, ◌<◌, ◌≤◌}
 use mathlib.Core.Path.{◌≡◌, refl, sym, ◌∙◌, ap, subst}
-use mathlib.Core.Logic.{⊎_elim}
 use mathlib.Core.Bool.{Bool, true, false, cond, ◌||◌}
 use mathlib.Core.List.{List, [], ◌∷◌}
 use native.Mathlib.Omega.{arith}
 use native.Mathlib.Decide.{dec_lt}
 use lib.ListN.{length}
 use lib.Dec.{leb, eqb}
-use borrow.Author.Tests.{eqb-true, eq-eqb}
-use Rattle.laws.proofs.Tests.{true_false, either, neither}
+use borrow.Author.Tests.{eq-eqb}
+use Rattle.std.proofs.lemmas.Bool.{both_ways, cond_both, or_parts}
+use Rattle.std.proofs.lemmas.Bool.Decides.{nat_tests}
 use Rattle.message.specs.Class.{class_of, between, is_text, is_plain}
 use Rattle.message.specs.Reading.{Reading, ◌>>=◌, is, byte_at, is_quote, has, one, ends, word_at}
 use Rattle.message.specs.Characters.{Character, later, second_of_three, third_of_three, second_of_four, two_at, three_at, last_two_at, four_at, long_at, is_digit, digit_of, digits_at, closes, numbered_at, stands_at, predefined_at, reference_at}
 use Rattle.message.specs.Text.{special_at, beyond_plain_in_at, value_at}
-use Rattle.message.proofs.Laws.{cond_cases, has_in, has_lt, has_byte, ends_more, ends_stop, ends_out}
+use Rattle.message.proofs.Laws.{has_in, has_lt, has_byte, ends_more, ends_stop, ends_out}
 use Rattle.message.proofs.Progress.{Every, every_then}
 
 -- the byte stands in the word
@@ -37,7 +37,7 @@ module _ (s : List ℕ) (q : ℕ) where
   -- a byte that passes a test which q fails
   free_on : (test : ℕ → Bool) → test q ≡ false → (from at : ℕ) → Free from at → has test s at ≡ true → Free from (at + 1)
   free_on test fails from at f h =
-      free_join from at (at + 1) f (λ i a b e. true_false (has_byte test s at h) (ap test (ap (byte_at s) (omega arith) ∙ e) ∙ fails))
+      free_join from at (at + 1) f (λ i a b e. both_ways _ (ap test (ap (byte_at s) (omega arith) ∙ e) ∙ fails) (has_byte test s at h))
 
   -- and as many as do
   pub free_run : (test : ℕ → Bool) → test q ≡ false → (n from at : ℕ) → length s ≤ at + n → Free from at → Free from (ends test s at)
@@ -52,7 +52,7 @@ module _ (s : List ℕ) (q : ℕ) where
 
   module _ (quote : is_quote q ≡ true) (from : ℕ) where
     fails : (test : ℕ → Bool) → test 34 ≡ false → test 39 ≡ false → test q ≡ false
-    fails test a b = ⊎_elim (λ e. ap test (eqb-true q 34 e) ∙ a) (λ e. ap test (eqb-true q 39 e) ∙ b) (either (eqb q 34) (eqb q 39) quote)
+    fails test a b = grind (arith, nat_tests)
 
     abbrev Clear : Reading Character → Type 0
     Clear = Every (λ c. Free from c.end)
@@ -62,21 +62,13 @@ module _ (s : List ℕ) (q : ℕ) where
 
     free_one : (test : ℕ → Bool) → test q ≡ false → (at : ℕ) → Free from at → ClearPlace (one test s at)
     unfolding one
-    free_one test fails at f = cond_cases ClearPlace (has test s at) (free_on test fails from at f) (λ t. tt)
+    free_one test fails at f = cond_both (has test s at) _ _ ClearPlace (free_on test fails from at f) (λ t. tt)
 
     second_three_lem : (lead : ℕ) → second_of_three lead q ≡ false
-    second_three_lem lead = go (eqb lead 224) (cond (eqb lead 237) 159 191)
-      where
-        go : (t : Bool) (high : ℕ) → between (cond t 160 128) high q ≡ false
-        go true high = fails (between 160 high) refl refl
-        go false high = fails (between 128 high) refl refl
+    second_three_lem lead = grind (arith, nat_tests)
 
     second_four_lem : (lead : ℕ) → second_of_four lead q ≡ false
-    second_four_lem lead = go (eqb lead 240) (cond (eqb lead 244) 143 191)
-      where
-        go : (t : Bool) (high : ℕ) → between (cond t 144 128) high q ≡ false
-        go true high = fails (between 144 high) refl refl
-        go false high = fails (between 128 high) refl refl
+    second_four_lem lead = grind (arith, nat_tests)
 
     step : (test : ℕ → Bool) → test q ≡ false → {B : Type 0} (Q : B → Type 0) (next : ℕ → Reading B) (at : ℕ) → Free from at
         → ((e : ℕ) → Free from e → Every Q (next e)) → Every Q (one test s at >>= next)
@@ -85,10 +77,10 @@ module _ (s : List ℕ) (q : ℕ) where
     free_long : (at : ℕ) → Free from at → Clear (long_at s at)
     unfolding long_at two_at three_at four_at last_two_at
     free_long at f =
-        cond_cases Clear (has (between 194 223) s at) (λ t.
+        cond_both (has (between 194 223) s at) _ _ Clear (λ t.
         step later (fails later refl refl) (λ c. Free from c.end) _ (at + 1)
         (free_on (between 194 223) (fails (between 194 223) refl refl) from at f t) (λ e g. g)) (λ t.
-        cond_cases Clear (has (between 224 239) s at) (λ t.
+        cond_both (has (between 224 239) s at) _ _ Clear (λ t.
         step (second_of_three (byte_at s at)) (second_three_lem (byte_at s at)) (λ c. Free from c.end) _ (at + 1)
         (free_on (between 224 239) (fails (between 224 239) refl refl) from at f t) (λ i g.
         step (third_of_three (byte_at s at) (byte_at s (at + 1))) (fails (third_of_three (byte_at s at) (byte_at s (at + 1))) refl refl)
@@ -106,8 +98,8 @@ module _ (s : List ℕ) (q : ℕ) where
     unfolding word_at
     free_word [] at h f = f
     free_word (x ∷ word) at h f =
-        step (is x) (neither (eqb q x) (holds word q) h).0 (λ e. Free from e) _ at f
-        (λ e g. free_word word e (neither (eqb q x) (holds word q) h).1 g)
+        step (is x) (or_parts (eqb q x) (holds word q) h).0 (λ e. Free from e) _ at f
+        (λ e g. free_word word e (or_parts (eqb q x) (holds word q) h).1 g)
 
     free_stands : (word : List ℕ) (code at : ℕ) → holds word 34 ≡ false → holds word 39 ≡ false → Free from at
         → Clear (stands_at word code s at)
@@ -118,11 +110,11 @@ module _ (s : List ℕ) (q : ℕ) where
     free_predefined : (at : ℕ) → Free from at → Clear (predefined_at s at)
     unfolding predefined_at
     free_predefined at f =
-        cond_cases Clear (has (is 108) s at) (λ t. free_stands (108 ∷ 116 ∷ 59 ∷ []) 60 at refl refl f) (λ t.
-        cond_cases Clear (has (is 103) s at) (λ t. free_stands (103 ∷ 116 ∷ 59 ∷ []) 62 at refl refl f) (λ t.
-        cond_cases Clear (has (is 113) s at) (λ t. free_stands (113 ∷ 117 ∷ 111 ∷ 116 ∷ 59 ∷ []) 34 at refl refl f) (λ t.
+        cond_both (has (is 108) s at) _ _ Clear (λ t. free_stands (108 ∷ 116 ∷ 59 ∷ []) 60 at refl refl f) (λ t.
+        cond_both (has (is 103) s at) _ _ Clear (λ t. free_stands (103 ∷ 116 ∷ 59 ∷ []) 62 at refl refl f) (λ t.
+        cond_both (has (is 113) s at) _ _ Clear (λ t. free_stands (113 ∷ 117 ∷ 111 ∷ 116 ∷ 59 ∷ []) 34 at refl refl f) (λ t.
         step (is 97) (fails (is 97) refl refl) (λ c. Free from c.end) _ at f (λ i g.
-        cond_cases Clear (has (is 109) s i) (λ t. free_stands (109 ∷ 112 ∷ 59 ∷ []) 38 i refl refl g)
+        cond_both (has (is 109) s i) _ _ Clear (λ t. free_stands (109 ∷ 112 ∷ 59 ∷ []) 38 i refl refl g)
         (λ t. free_stands (112 ∷ 111 ∷ 115 ∷ 59 ∷ []) 39 i refl refl g)))))
 
     free_digits : (fuel base n at : ℕ) → Free from at → Clear (digits_at fuel base n s at)
@@ -130,8 +122,8 @@ module _ (s : List ℕ) (q : ℕ) where
     free_digits zero base n at f = tt
     free_digits (suc fuel) base n at f =
         let more = n * base + digit_of (byte_at s at) in
-        cond_cases Clear (has (is_digit base) s at) (λ t.
-        cond_cases Clear (leb more 1114111)
+        cond_both (has (is_digit base) s at) _ _ Clear (λ t.
+        cond_both (leb more 1114111) _ _ Clear
         (λ u. free_digits fuel base more (at + 1) (free_on (is_digit base) (fails (is_digit base) refl refl) from at f t)) (λ u. tt)) (λ t. f)
 
     free_numbered : (base at : ℕ) → Free from at → Clear (numbered_at base s at)
@@ -146,9 +138,9 @@ module _ (s : List ℕ) (q : ℕ) where
     unfolding reference_at
     free_reference at f =
         step (is 38) (fails (is 38) refl refl) (λ c. Free from c.end) _ at f (λ i g.
-        cond_cases Clear (has (is 35) s i) (λ t.
+        cond_both (has (is 35) s i) _ _ Clear (λ t.
         let hash : Free from (i + 1) = free_on (is 35) (fails (is 35) refl refl) from i g t in
-        cond_cases Clear (has (is 120) s (i + 1))
+        cond_both (has (is 120) s (i + 1)) _ _ Clear
         (λ u. free_numbered 16 (i + 2) (subst (Free from) (omega arith) (free_on (is 120) (fails (is 120) refl refl) from (i + 1) hash u)))
         (λ u. free_numbered 10 (i + 1) hash)) (λ t.
         free_predefined i g))
@@ -156,13 +148,13 @@ module _ (s : List ℕ) (q : ℕ) where
     free_beyond : (at : ℕ) → Free from at → has (is q) s at ≡ false → ClearPlace (beyond_plain_in_at class_of s at)
     unfolding beyond_plain_in_at special_at
     free_beyond at f other =
-        cond_cases ClearPlace (has (is_text class_of) s at)
+        cond_both (has (is_text class_of) s at) _ _ ClearPlace
         (λ t i a b e. elim (dec_lt i at) [ yes h ↦ f i a h e | no h ↦ differs (has_lt (is_text class_of) s at t) i (omega arith) e ]) (λ t.
         every_then (λ c. Free from c.end) (Free from) _ (cond (has (is 38) s at) (reference_at s at) (long_at s at))
-        (cond_cases Clear (has (is 38) s at) (λ u. free_reference at f) (λ u. free_long at f)) (λ c g. g))
+        (cond_both (has (is 38) s at) _ _ Clear (λ u. free_reference at f) (λ u. free_long at f)) (λ c g. g))
       where
         differs : at < length s → (i : ℕ) → i ≡ at → byte_at s i ≡ q → ⊥
-        differs h i i-is e = true_false (eq-eqb (byte_at s at) q (ap (byte_at s) (sym i-is) ∙ e)) (sym (has_in (is q) s at h) ∙ other)
+        differs h i i-is e = both_ways _ (sym (has_in (is q) s at h) ∙ other) (eq-eqb (byte_at s at) q (ap (byte_at s) (sym i-is) ∙ e))
 
     -- ---- a value, up to the mark that ends it
 
@@ -173,6 +165,6 @@ module _ (s : List ℕ) (q : ℕ) where
     free_value (suc fuel) at f =
         let stop = ends (is_plain class_of) s at in
         let clear : Free from stop = free_run (is_plain class_of) not_plain (length s) from at (omega arith) f in
-        cond_cases (Every (λ stop. Free from stop × (has (is q) s stop ≡ true))) (has (is q) s stop) (λ t. (clear, t)) (λ t.
+        cond_both (has (is q) s stop) _ _ (Every (λ stop. Free from stop × (has (is q) s stop ≡ true))) (λ t. (clear, t)) (λ t.
         every_then (Free from) (λ stop. Free from stop × (has (is q) s stop ≡ true)) _ (beyond_plain_in_at class_of s stop)
         (free_beyond stop clear t) (λ e g. free_value fuel e g))

@@ -7,6 +7,7 @@ use native.Mathlib.Omega.{arith}
 use lib.ListN.{length}
 use lib.Dec.{eqb}
 use borrow.Author.Tests.{eq-eqb}
+use Rattle.std.proofs.lemmas.Bool.{cond_both}
 use Rattle.message.specs.Class.{between}
 use Rattle.message.specs.Reading.{Reading, is, byte_at, has, one, word_at}
 use Rattle.message.specs.Reading.Reading.{whole}
@@ -14,7 +15,7 @@ use Rattle.message.specs.Characters.{Character, legal, later, second_of_three, t
 use Rattle.message.specs.Readable.{Spelled}
 use Rattle.message.specs.Alphabet.{Utf8, CharactersAre}
 use Rattle.message.specs.Alphabet.Utf8.{two, three, four}
-use Rattle.message.proofs.Laws.{cond_cases, has_in, has_lt, one_yes, between_yes, between_above, has_between, one_between}
+use Rattle.message.proofs.Laws.{has_in, has_lt, one_yes, between_yes, between_above, has_between, one_between}
 use Rattle.message.proofs.Runs.{byte_is}
 use Rattle.message.proofs.Words.{word_first, word_before}
 use Rattle.message.proofs.Spelling.{word_spelled, spelled_word}
@@ -134,8 +135,8 @@ module _ (s : List ℕ) where
     long_exact : Every Exact (long_at s at)
     unfolding long_at
     long_exact =
-        cond_cases (Every Exact) (has (between 194 223) s at) two_exact (λ no.
-        cond_cases (Every Exact) (has (between 224 239) s at) three_exact (λ none. four_exact))
+        cond_both (has (between 194 223) s at) _ _ (Every Exact) two_exact (λ no.
+        cond_both (has (between 224 239) s at) _ _ (Every Exact) three_exact (λ none. four_exact))
 
     -- ---- every legal character is read
 

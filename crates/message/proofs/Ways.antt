@@ -9,17 +9,16 @@ use lib.ListN.{length, take}
 use lib.Seq.{take-suc}
 use lib.Dec.{ltb, leb}
 use borrow.Author.Tests.{ltb-true, not-true}
-use Rattle.laws.proofs.Tests.{true_false}
+use Rattle.std.proofs.lemmas.Bool.{and_parts}
 use Rattle.message.specs.Reading.{byte_at}
 use Rattle.message.specs.Limits.{Limits}
-use Rattle.message.proofs.Laws.{both_first, both_second}
 use Rattle.message.proofs.Automaton.{first, State, ground, Next, dead, goes, step, steps, number, numbered}
 use Rattle.message.proofs.Dues.{due, further, state_at, At}
 
 -- ---- steps
 
 pub goes_dead : {st : State} → goes st ≡ dead → ⊥
-goes_dead e = let z : ◌≡◌ {A = ℕ} 0 1 = cc in omega arith
+goes_dead e = cc
 
 pub goes_same : {st st' : State} → goes st ≡ goes st' → st ≡ st'
 goes_same e = cc
@@ -28,10 +27,10 @@ goes_same e = cc
 pub numbered_small : (hex : Bool) (n : ℕ) (k : State) (t : Bool) (e : leb n 1114111 ≡ t) → t ≡ true
     → (small : leb n 1114111 ≡ true) × (numbered hex n t e k ≡ goes (number hex n small k))
 numbered_small hex n k true e h = (e, refl)
-numbered_small hex n k false e h = absurd (true_false h refl)
+numbered_small hex n k false e h = cc
 
 pub numbered_great : (hex : Bool) (n : ℕ) (k : State) (t : Bool) (e : leb n 1114111 ≡ t) → t ≡ false → numbered hex n t e k ≡ dead
-numbered_great hex n k true e h = absurd (true_false refl h)
+numbered_great hex n k true e h = cc
 numbered_great hex n k false e h = refl
 
 pub steps_on : (st : State) {next : State} (x : ℕ) (u : List ℕ) → step st x ≡ goes next → steps st (x ∷ u) ≡ steps next u
@@ -79,8 +78,8 @@ module _ (l : Limits) (s : List ℕ) where
       turn from here true e q = record {
         from = from;
         here = here;
-        within = ltb-true i (length s) (both_first (ltb i (length s)) (not (due l s from i)) e);
-        free = not-true (due l s from i) (both_second (ltb i (length s)) (not (due l s from i)) e);
+        within = ltb-true i (length s) (and_parts (ltb i (length s)) (not (due l s from i)) e).0;
+        free = not-true (due l s from i) (and_parts (ltb i (length s)) (not (due l s from i)) e).1;
         by = q;
       }
       turn from here false e q = absurd (goes_dead (sym q))

@@ -1,6 +1,6 @@
 -- Words that were read: their bytes one by one, where they end, and that they stand there. Assumes nothing.
 use Prim.Native.Nat.{ℕ, ◌+◌, ◌≤◌}
-use mathlib.Core.Path.{◌≡◌, refl, sym, ◌∙◌, ap}
+use mathlib.Core.Path.{◌≡◌, refl, sym, ◌∙◌, ap, ap₂}
 use mathlib.Core.Bool.{true}
 use mathlib.Core.List.{List, [], ◌∷◌, ◌++◌}
 use native.Mathlib.Omega.{arith}
@@ -56,7 +56,4 @@ module _ (s : List ℕ) where
   word_part (b ∷ w) i e q l =
       let x = word_first b w i e q in
       let r = word_part w (i + 1) e x.1 l in
-      (omega (arith, r.0), part_some s i e (omega (arith, r.0)) l ∙ cons (byte_is b s i x.0) r.1)
-    where
-      cons : {x y : ℕ} {u v : List ℕ} → x ≡ y → u ≡ v → x ∷ u ≡ y ∷ v
-      cons p q = rw (p, q)
+      (omega (arith, r.0), part_some s i e (omega (arith, r.0)) l ∙ ap₂ ◌∷◌ (byte_is b s i x.0) r.1)

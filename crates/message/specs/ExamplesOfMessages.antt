@@ -1,6 +1,6 @@
 -- Promise 9, the definitions at work on the seven: which messages are one of them, and what is read of each. And the numbers that C sees.
 -- (proofs/MessagesAtWork, proofs/NumbersForC) Assumes nothing.
-use Rattle.std.specs.Prelude.{ℕ, ◌≡◌, true, List, [], ◌∷◌, ◌++◌, map}
+use Rattle.std.specs.Prelude.{ℕ, ◌≡◌, true, List, [], ◌∷◌, ◌++◌, map, Option, None, Some}
 use Prim.Native.String.{String}
 use Rattle.message.specs.Reading.Reading.{whole}
 use Rattle.message.specs.Words.{codes}
@@ -8,15 +8,11 @@ use Rattle.message.specs.Messages.{kind_number, no_status, no_number, no_type, m
 use Rattle.message.specs.Values.{number_flag, number_named, status_number, advice_number}
 use Rattle.message.specs.Examples.{Example, AllAsDue, formed, stops}
 use Rattle.message.specs.declared.Kind.TheVariants as kinds
-use Rattle.message.specs.declared.Number.{Number}
-use Rattle.message.specs.declared.Number.TheVariants.{Nothing, Names}
+use Rattle.message.specs.declared.Value.{Value}
 use Rattle.message.specs.declared.Status.{Status}
 use Rattle.message.specs.declared.Status.TheVariants as statuses
 use Rattle.message.specs.declared.Advice.{Advice}
 use Rattle.message.specs.declared.Advice.TheVariants as advices
-use Rattle.message.specs.declared.NumberValue.{NumberValue}
-use Rattle.message.specs.declared.StatusValue.{StatusValue}
-use Rattle.message.specs.declared.TypeValue.{TypeValue}
 use Rattle.message.specs.declared.Message.{Message}
 
 -- a message that is read, and what is read of it
@@ -24,35 +20,35 @@ abbrev pub reads : Message → List ℕ → Example
 reads m bytes = record { bytes = bytes; due = whole m }
 
 -- a value with its place, its length and its meaning
-abbrev pub number_at : ℕ → ℕ → Number → NumberValue
-number_at place length number = record { there = true; place = place; length = length; number = number }
+abbrev pub number_at : ℕ → ℕ → Option ℕ → Value (Option ℕ)
+number_at place length number = record { there = true; place = place; length = length; meaning = number }
 
-abbrev pub status_at : ℕ → ℕ → Status → StatusValue
-status_at place length status = record { there = true; place = place; length = length; status = status }
+abbrev pub status_at : ℕ → ℕ → Status → Value Status
+status_at place length status = record { there = true; place = place; length = length; meaning = status }
 
-abbrev pub type_at : ℕ → ℕ → Advice → TypeValue
-type_at place length advice = record { there = true; place = place; length = length; advice = advice }
+abbrev pub type_at : ℕ → ℕ → Advice → Value Advice
+type_at place length advice = record { there = true; place = place; length = length; meaning = advice }
 
 -- the seven, each with the values that it may hold
 abbrev pub open_request : Message
 open_request = message kinds.SessionOpenRequest no_status no_number no_number no_number no_type
 
-abbrev pub open_response : StatusValue → Message
+abbrev pub open_response : Value Status → Message
 open_response status = message kinds.SessionOpenResponse status no_number no_number no_number no_type
 
-abbrev pub session_ok : NumberValue → Message
+abbrev pub session_ok : Value (Option ℕ) → Message
 session_ok identity = message kinds.SessionOk no_status identity no_number no_number no_type
 
-abbrev pub ok : NumberValue → Message
+abbrev pub ok : Value (Option ℕ) → Message
 ok in_response_to = message kinds.Ok no_status no_number in_response_to no_number no_type
 
-abbrev pub advisory : NumberValue → TypeValue → Message
+abbrev pub advisory : Value (Option ℕ) → Value Advice → Message
 advisory in_relation_to type = message kinds.Advisory no_status no_number no_number in_relation_to type
 
-abbrev pub request : NumberValue → Message
+abbrev pub request : Value (Option ℕ) → Message
 request identity = message kinds.Request no_status identity no_number no_number no_type
 
-abbrev pub response : NumberValue → Message
+abbrev pub response : Value (Option ℕ) → Message
 response in_response_to = message kinds.Response no_status no_number in_response_to no_number no_type
 
 -- a SessionOpenResponse with a status, and an Advisory with a type
@@ -66,19 +62,19 @@ abbrev pub MessagesAtWork : Type 0
 MessagesAtWork =
     AllAsDue
     ( -- the listing's two items
-    reads (ok (number_at 18 1 (Names 7))) (codes "<Ok inResponseTo=\"7\"/>")
+    reads (ok (number_at 18 1 (Some 7))) (codes "<Ok inResponseTo=\"7\"/>")
     ∷ stops 9 4 (codes "<Ok>")
     ∷  -- Ok needs its number; what does not name one is there and names nothing
     formed (codes "<Ok/>")
     ∷ formed (codes "<Ok ID=\"7\"/>")
-    ∷ reads (ok (number_at 18 3 Nothing)) (codes "<Ok inResponseTo=\"007\"/>")
-    ∷ reads (ok (number_at 18 2 Nothing)) (codes "<Ok inResponseTo=\" 7\"/>")
-    ∷ reads (ok (number_at 18 0 Nothing)) (codes "<Ok inResponseTo=\"\"/>")
-    ∷ reads (ok (number_at 18 5 (Names 7))) (codes "<Ok inResponseTo=\"&#55;\"/>")
-    ∷ reads (ok (number_at 18 10 (Names 4294967295))) (codes "<Ok inResponseTo=\"4294967295\"/>")
-    ∷ reads (ok (number_at 18 10 Nothing)) (codes "<Ok inResponseTo=\"4294967296\"/>")
+    ∷ reads (ok (number_at 18 3 None)) (codes "<Ok inResponseTo=\"007\"/>")
+    ∷ reads (ok (number_at 18 2 None)) (codes "<Ok inResponseTo=\" 7\"/>")
+    ∷ reads (ok (number_at 18 0 None)) (codes "<Ok inResponseTo=\"\"/>")
+    ∷ reads (ok (number_at 18 5 (Some 7))) (codes "<Ok inResponseTo=\"&#55;\"/>")
+    ∷ reads (ok (number_at 18 10 (Some 4294967295))) (codes "<Ok inResponseTo=\"4294967295\"/>")
+    ∷ reads (ok (number_at 18 10 None)) (codes "<Ok inResponseTo=\"4294967296\"/>")
     ∷  -- elements are found by the name behind the colon, attributes by the whole name
-    reads (ok (number_at 26 1 (Names 0))) (codes "<a:Ok b=\"\"  inResponseTo='0'>c<d/></a:Ok>")
+    reads (ok (number_at 26 1 (Some 0))) (codes "<a:Ok b=\"\"  inResponseTo='0'>c<d/></a:Ok>")
     ∷ formed (codes "<Ok a:inResponseTo=\"7\"/>")
     ∷ formed (codes "<SessionOK ID=\"7\"/>")
     ∷  -- a SessionOpenRequest needs nothing, and its content is free
@@ -92,7 +88,7 @@ MessagesAtWork =
     ∷ reads (open_response (status_at 29 0 statuses.Other)) (with_status "")
     ∷ formed (codes "<SessionOpenResponse/>")
     ∷  -- a SessionOk needs its number
-    reads (session_ok (number_at 15 1 (Names 7))) (codes "<SessionOk ID=\"7\"/>")
+    reads (session_ok (number_at 15 1 (Some 7))) (codes "<SessionOk ID=\"7\"/>")
     ∷ formed (codes "<SessionOk inResponseTo=\"7\"/>")
     ∷  -- an Advisory needs a type, in its only child; comments in it mean nothing, and an element makes it other
     reads (advisory no_number (type_at 34 60 advices.UnreadableMessage)) (with_type "urn:nena-org:dtc:aqs:notif:advisory:appl-x:UnreadableMessage")
@@ -107,20 +103,20 @@ MessagesAtWork =
     ∷  -- the first type counts, and is 0 and 0 of an empty-element tag; the number stands on the child, or is not there
     reads (advisory no_number (type_at 0 0 advices.Other))
     (codes "<Advisory inRelationTo=\"7\"><Advisory><a/><AdvisoryType/><AdvisoryType>b</AdvisoryType></Advisory></Advisory>")
-    ∷ reads (advisory (number_at 34 1 (Names 7)) (type_at 0 0 advices.Other))
+    ∷ reads (advisory (number_at 34 1 (Some 7)) (type_at 0 0 advices.Other))
     (codes "<Advisory><Advisory inRelationTo=\"7\"><AdvisoryType/></Advisory></Advisory>")
-    ∷ reads (advisory (number_at 36 1 Nothing) (type_at 55 1 advices.Other))
+    ∷ reads (advisory (number_at 36 1 None) (type_at 55 1 advices.Other))
     (codes "<Advisory><a:Advisory inRelationTo=\"b\"><c:AdvisoryType>d</c:AdvisoryType></a:Advisory></Advisory>")
     ∷  -- a Request needs the number of its only child
-    reads (request (number_at 29 1 (Names 7))) (codes "<Request><a:QueryRequest ID=\"7\"/></Request>")
-    ∷ reads (request (number_at 36 1 (Names 7))) (codes "<Request>a<!-- --><QueryRequest ID=\"7\"><b/><c/></QueryRequest>d</Request>")
+    reads (request (number_at 29 1 (Some 7))) (codes "<Request><a:QueryRequest ID=\"7\"/></Request>")
+    ∷ reads (request (number_at 36 1 (Some 7))) (codes "<Request>a<!-- --><QueryRequest ID=\"7\"><b/><c/></QueryRequest>d</Request>")
     ∷ formed (codes "<Request ID=\"7\"><QueryRequest/></Request>")
     ∷ formed (codes "<Request ID=\"7\"/>")
     ∷ formed (codes "<Request><QueryRequest ID=\"7\"/><a/></Request>")
     ∷ formed (codes "<Request><a/><QueryRequest ID=\"7\"/></Request>")
     ∷ formed (codes "<Request><QueryResponse ID=\"7\"/></Request>")
     ∷  -- a Response may be without
-    reads (response (number_at 39 1 (Names 7))) (codes "<Response><QueryResponse inResponseTo=\"7\"/></Response>")
+    reads (response (number_at 39 1 (Some 7))) (codes "<Response><QueryResponse inResponseTo=\"7\"/></Response>")
     ∷ reads (response no_number) (codes "<Response inResponseTo=\"7\"><QueryResponse/></Response>")
     ∷ formed (codes "<Response/>")
     ∷ [])
@@ -133,5 +129,5 @@ NumbersForC =
     ≡ 1 ∷ 2 ∷ 3 ∷ 4 ∷ 5 ∷ 6 ∷ 7 ∷ [])
     × (map status_number (statuses.Ok ∷ statuses.RedundantSession ∷ statuses.Other ∷ []) ≡ 1 ∷ 2 ∷ 0 ∷ [])
     × (map advice_number (advices.UnreadableMessage ∷ advices.Other ∷ []) ≡ 1 ∷ 0 ∷ [])
-    × (map number_flag (Names 7 ∷ Nothing ∷ []) ≡ 1 ∷ 0 ∷ [])
-    × (map number_named (Names 7 ∷ Nothing ∷ []) ≡ 7 ∷ 0 ∷ [])
+    × (map number_flag (Some 7 ∷ None ∷ []) ≡ 1 ∷ 0 ∷ [])
+    × (map number_named (Some 7 ∷ None ∷ []) ≡ 7 ∷ 0 ∷ [])

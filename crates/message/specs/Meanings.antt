@@ -1,6 +1,6 @@
 -- Promise 6, meanings: which texts name a number, a status and a type, and what comments and elements in them do.
 -- (proofs/Meanings, proofs/References, proofs/ReferencesRead, proofs/BeyondAscii) Assumes nothing.
-use Rattle.std.specs.Prelude.{ℕ, ◌+◌, ◌*◌, ◌<◌, ◌≤◌, ◌≡◌, true, false, List, [], ◌∷◌, ◌++◌, length}
+use Rattle.std.specs.Prelude.{ℕ, ◌+◌, ◌*◌, ◌<◌, ◌≤◌, ◌≡◌, true, false, List, [], ◌∷◌, ◌++◌, length, Some}
 use Rattle.message.specs.Class.{class_of, is_text}
 use Rattle.message.specs.Reading.{is, byte_at, has}
 use Rattle.message.specs.Reading.Reading.{whole}
@@ -13,7 +13,6 @@ use Rattle.message.specs.Elements.Elements.{none}
 use Rattle.message.specs.Messages.Found.{found}
 use Rattle.message.specs.Messages.{number_value, status_value, type_advice}
 use Rattle.message.specs.Words.{char, codes, ok_status, redundant_status, unreadable_message}
-use Rattle.message.specs.declared.Number.TheVariants.{Names}
 use Rattle.message.specs.declared.Status.TheVariants as statuses
 use Rattle.message.specs.declared.Advice.TheVariants as advices
 
@@ -105,18 +104,18 @@ pub data Decimal : ℕ → List ℕ → Type 0 where
 
 -- A value names n exactly if its text is n in decimal, below 2^32.
 pub record NamesExactly (s : List ℕ) (from to n : ℕ) : Type 0 where
-  pub names : (number_value class_of s (found from to)).number ≡ Names n → (text : List ℕ) × ValueSays s to from text × Decimal n text × (n < 4294967296)
-  pub named : (text : List ℕ) → ValueSays s to from text → Decimal n text → n < 4294967296 → (number_value class_of s (found from to)).number ≡ Names n
+  pub names : (number_value class_of s (found from to)).meaning ≡ Some n → (text : List ℕ) × ValueSays s to from text × Decimal n text × (n < 4294967296)
+  pub named : (text : List ℕ) → ValueSays s to from text → Decimal n text → n < 4294967296 → (number_value class_of s (found from to)).meaning ≡ Some n
 
 abbrev pub NumbersMean : Type 0
 NumbersMean = (s : List ℕ) (from to n : ℕ) → NamesExactly s from to n
 
 -- A status is Ok, or RedundantSession, exactly if its text is that URI.
 pub record StatusExactly (s : List ℕ) (from to : ℕ) : Type 0 where
-  pub ok : (status_value class_of s (found from to)).status ≡ statuses.Ok → ValueSays s to from ok_status
-  pub is_ok : ValueSays s to from ok_status → (status_value class_of s (found from to)).status ≡ statuses.Ok
-  pub redundant : (status_value class_of s (found from to)).status ≡ statuses.RedundantSession → ValueSays s to from redundant_status
-  pub is_redundant : ValueSays s to from redundant_status → (status_value class_of s (found from to)).status ≡ statuses.RedundantSession
+  pub ok : (status_value class_of s (found from to)).meaning ≡ statuses.Ok → ValueSays s to from ok_status
+  pub is_ok : ValueSays s to from ok_status → (status_value class_of s (found from to)).meaning ≡ statuses.Ok
+  pub redundant : (status_value class_of s (found from to)).meaning ≡ statuses.RedundantSession → ValueSays s to from redundant_status
+  pub is_redundant : ValueSays s to from redundant_status → (status_value class_of s (found from to)).meaning ≡ statuses.RedundantSession
 
 abbrev pub StatusesMean : Type 0
 StatusesMean = (s : List ℕ) (from to : ℕ) → StatusExactly s from to

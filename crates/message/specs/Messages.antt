@@ -1,5 +1,6 @@
 -- Document 01, "The seven messages": the kind of a message, the values that it carries, and refusal 13. Assumes nothing.
-use Rattle.std.specs.Prelude.{ℕ, zero, suc, ◌+◌, ◌-◌, Bool, true, false, cond, List, length}
+use Rattle.message.specs.declared.Status.{Status}
+use Rattle.std.specs.Prelude.{ℕ, zero, suc, ◌+◌, ◌-◌, Bool, true, false, cond, List, length, Option, None}
 use Rattle.laws.specs.Bytes.{same_bytes}
 use Rattle.message.specs.Reading.{Reading, ◌>>=◌, blanks}
 use Rattle.message.specs.Reading.Reading.{whole, refused}
@@ -11,16 +12,11 @@ use Rattle.message.specs.Values.{attribute_meaning, content_meaning, number_of, 
 use Rattle.message.specs.Words as words
 use Rattle.message.specs.declared.Kind.{Kind}
 use Rattle.message.specs.declared.Kind.TheVariants as kinds
-use Rattle.message.specs.declared.Number.TheVariants.{Nothing}
+use Rattle.message.specs.declared.Value.{Value}
 use Rattle.message.specs.declared.Status.TheVariants as statuses
 use Rattle.message.specs.declared.Advice.{Advice}
 use Rattle.message.specs.declared.Advice.TheVariants as advices
-use Rattle.message.specs.declared.NumberValue.{NumberValue}
-use Rattle.message.specs.declared.StatusValue.{StatusValue}
-use Rattle.message.specs.declared.TypeValue.{TypeValue}
 use Rattle.message.specs.declared.Message.{Message}
-use Rattle.message.specs.declared.Answer.{Answer}
-use Rattle.message.specs.declared.Answer.TheVariants as answers
 
 -- well formed, but no message of the seven
 abbrev pub no_message : {A : Type 0} → Reading A
@@ -64,17 +60,17 @@ found_in (whole v) = found v.from v.to
 found_in (refused number place) = missing
 
 -- a value that its kind does not have, or that is not there
-abbrev pub no_number : NumberValue
-no_number = record { there = false; place = 0; length = 0; number = Nothing }
+abbrev pub no_number : Value (Option ℕ)
+no_number = record { there = false; place = 0; length = 0; meaning = None }
 
-abbrev pub no_status : StatusValue
-no_status = record { there = false; place = 0; length = 0; status = statuses.Other }
+abbrev pub no_status : Value Status
+no_status = record { there = false; place = 0; length = 0; meaning = statuses.Other }
 
-abbrev pub no_type : TypeValue
-no_type = record { there = false; place = 0; length = 0; advice = advices.Other }
+abbrev pub no_type : Value Advice
+no_type = record { there = false; place = 0; length = 0; meaning = advices.Other }
 
 -- the message of a kind, with its values in the order in which include/ali_link.h counts them
-abbrev pub message : Kind → StatusValue → NumberValue → NumberValue → NumberValue → TypeValue → Message
+abbrev pub message : Kind → Value Status → Value (Option ℕ) → Value (Option ℕ) → Value (Option ℕ) → Value Advice → Message
 message k status identity in_response_to in_relation_to type =
     record { kind = k; status = status; id = identity; in_response_to = in_response_to; in_relation_to = in_relation_to; advisory_type = type }
 
@@ -99,24 +95,24 @@ module _ (s : List ℕ) where
 module _ (class : ℕ → ℕ) (s : List ℕ) where
   -- ---- values with what they mean
 
-  abbrev pub number_value : Found → NumberValue
+  abbrev pub number_value : Found → Value (Option ℕ)
   number_value missing = no_number
   number_value (found from to) =
-      record { there = true; place = from; length = to - from; number = number_of (attribute_meaning class s (suc (length s)) to from) }
+      record { there = true; place = from; length = to - from; meaning = number_of (attribute_meaning class s (suc (length s)) to from) }
 
-  abbrev pub status_value : Found → StatusValue
+  abbrev pub status_value : Found → Value Status
   status_value missing = no_status
   status_value (found from to) =
-      record { there = true; place = from; length = to - from; status = status_of (attribute_meaning class s (suc (length s)) to from) }
+      record { there = true; place = from; length = to - from; meaning = status_of (attribute_meaning class s (suc (length s)) to from) }
 
   -- an element inside makes it other
   abbrev pub type_advice : Elements → ℕ → ℕ → Advice
   type_advice none from to = advice_of (content_meaning class s (suc (length s)) to from)
   type_advice (more t inner others) from to = advices.Other
 
-  abbrev pub type_value : Element → TypeValue
+  abbrev pub type_value : Element → Value Advice
   type_value e =
-      record { there = true; place = e.tag.from; length = e.tag.to - e.tag.from; advice = type_advice e.inside e.tag.from e.tag.to }
+      record { there = true; place = e.tag.from; length = e.tag.to - e.tag.from; meaning = type_advice e.inside e.tag.from e.tag.to }
 
 module _ (class : ℕ → ℕ) (l : Limits) (s : List ℕ) where
   -- ---- the attributes of a start tag
@@ -168,8 +164,3 @@ module _ (class : ℕ → ℕ) (l : Limits) (s : List ℕ) where
   -- a whole message
   abbrev pub message_of : Reading Message
   message_of = message_at 0
-
--- what an answer says: the message, or the number and the place of a refusal
-abbrev pub answer_said : Answer → Reading Message
-answer_said (answers.Read m) = whole m
-answer_said (answers.Refused number place) = refused number place

@@ -5,6 +5,10 @@
 use Rattle.std.specs.Prelude.{ℕ, zero, suc, ◌+◌, ◌-◌, Bool, true, false, cond, ◌&&◌, ◌||◌, List, [], ◌∷◌, length, get_or, drop, ltb, leb, eqb}
 use Rattle.message.specs.Class.{is_space}
 use Rattle.message.specs.Words.{char}
+use Rattle.message.specs.declared.Reason.{Reason}
+use Rattle.message.specs.declared.Reason.TheVariants as reasons
+use Rattle.message.specs.declared.Refusal.{Refusal}
+use Rattle.std.specs.Prelude.{Result, Ok, Err}
 
 pub data Reading (A : Type 0) : Type 0 where
   whole : A → Reading A
@@ -83,3 +87,19 @@ module _ (class : ℕ → ℕ) where
 -- the quotation mark at `to` that ends the value from `from` on: the one that stands before it
 unfoldable pub closed_at : List ℕ → ℕ → ℕ → Reading ℕ
 closed_at s from to = cond (ltb 0 from && leb from (length s)) (one (is (byte_at s (from - 1))) s to) (refused 9 to)
+
+-- ---- what the code says of a reading
+
+-- document 01's number of a refusal
+abbrev pub reason_number : Reason → ℕ
+reason_number reasons.TooLong = 8
+reason_number reasons.NotWellFormed = 9
+reason_number reasons.TooDeep = 10
+reason_number reasons.TooManyAttributes = 11
+reason_number reasons.LeftOut = 12
+reason_number reasons.NoneOfTheSeven = 13
+reason_number reasons.NameTooLong = 14
+
+abbrev pub said : {A : Type 0} → Result A Refusal → Reading A
+said (Ok x) = whole x
+said (Err r) = refused (reason_number r.reason) r.place

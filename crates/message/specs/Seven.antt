@@ -1,6 +1,8 @@
 -- Promise 5, the seven: 13 exactly for what is none of them, the values that each needs, and where they stand.
 -- (proofs/Seven, proofs/Delimited, proofs/Children, proofs/NamesStand) Assumes nothing.
-use Rattle.std.specs.Prelude.{ℕ, ◌+◌, ◌-◌, ◌≤◌, ◌<◌, ◌≡◌, true, false, List, length}
+use Rattle.message.specs.declared.Status.{Status}
+use Rattle.message.specs.declared.Advice.{Advice}
+use Rattle.std.specs.Prelude.{ℕ, ◌+◌, ◌-◌, ◌≤◌, ◌<◌, ◌≡◌, true, false, List, length, Option, None}
 use Rattle.message.specs.Class.{class_of}
 use Rattle.message.specs.Reading.{is, is_quote, byte_at, has, blanks, equals_at}
 use Rattle.message.specs.Reading.Reading.{whole, refused}
@@ -14,12 +16,9 @@ use Rattle.message.specs.Readable.{NameStands, AttributeStands}
 use Rattle.message.specs.Words as words
 use Rattle.message.specs.Words.{char, codes}
 use Rattle.message.specs.declared.Kind.TheVariants as kinds
-use Rattle.message.specs.declared.Number.TheVariants.{Nothing}
+use Rattle.message.specs.declared.Value.{Value}
 use Rattle.message.specs.declared.Status.TheVariants as statuses
 use Rattle.message.specs.declared.Advice.TheVariants as advices
-use Rattle.message.specs.declared.NumberValue.{NumberValue}
-use Rattle.message.specs.declared.StatusValue.{StatusValue}
-use Rattle.message.specs.declared.TypeValue.{TypeValue}
 use Rattle.message.specs.declared.Message.{Message}
 
 module _ (s : List ℕ) where
@@ -48,50 +47,50 @@ module _ (s : List ℕ) where
 
   -- ---- what is shown of a value: whether it is there, its place and length in the message, and what it means (promise 6)
 
-  pub record NumberThere (w : List ℕ) (tag : Tag) (v : NumberValue) : Type 0 where
+  pub record NumberThere (w : List ℕ) (tag : Tag) (v : Value (Option ℕ)) : Type 0 where
     pub value : Quoted
     pub has : HasAttribute w tag value
     pub there : v.there ≡ true
     pub place : v.place ≡ value.from
     pub bytes : v.length ≡ value.to - value.from
-    pub means : v.number ≡ (number_value class_of s (found value.from value.to)).number
+    pub means : v.meaning ≡ (number_value class_of s (found value.from value.to)).meaning
 
-  pub record NoNumber (v : NumberValue) : Type 0 where
+  pub record NoNumber (v : Value (Option ℕ)) : Type 0 where
     pub there : v.there ≡ false
     pub place : v.place ≡ 0
     pub bytes : v.length ≡ 0
-    pub means : v.number ≡ Nothing
+    pub means : v.meaning ≡ None
 
   -- there if the attribute is
-  pub data PerhapsNumber (w : List ℕ) (tag : Tag) (v : NumberValue) : Type 0 where
+  pub data PerhapsNumber (w : List ℕ) (tag : Tag) (v : Value (Option ℕ)) : Type 0 where
     present : NumberThere w tag v → PerhapsNumber w tag v
     missing : ((q : Quoted) → HasAttribute w tag q → ⊥) → NoNumber v → PerhapsNumber w tag v
 
-  pub record StatusThere (w : List ℕ) (tag : Tag) (v : StatusValue) : Type 0 where
+  pub record StatusThere (w : List ℕ) (tag : Tag) (v : Value Status) : Type 0 where
     pub value : Quoted
     pub has : HasAttribute w tag value
     pub there : v.there ≡ true
     pub place : v.place ≡ value.from
     pub bytes : v.length ≡ value.to - value.from
-    pub means : v.status ≡ (status_value class_of s (found value.from value.to)).status
+    pub means : v.meaning ≡ (status_value class_of s (found value.from value.to)).meaning
 
-  pub record NoStatus (v : StatusValue) : Type 0 where
+  pub record NoStatus (v : Value Status) : Type 0 where
     pub there : v.there ≡ false
     pub place : v.place ≡ 0
     pub bytes : v.length ≡ 0
-    pub means : v.status ≡ statuses.Other
+    pub means : v.meaning ≡ statuses.Other
 
-  pub record TypeThere (type : Element) (v : TypeValue) : Type 0 where
+  pub record TypeThere (type : Element) (v : Value Advice) : Type 0 where
     pub there : v.there ≡ true
     pub place : v.place ≡ type.tag.from
     pub bytes : v.length ≡ type.tag.to - type.tag.from
-    pub means : v.advice ≡ type_advice class_of s type.inside type.tag.from type.tag.to
+    pub means : v.meaning ≡ type_advice class_of s type.inside type.tag.from type.tag.to
 
-  pub record NoType (v : TypeValue) : Type 0 where
+  pub record NoType (v : Value Advice) : Type 0 where
     pub there : v.there ≡ false
     pub place : v.place ≡ 0
     pub bytes : v.length ≡ 0
-    pub means : v.advice ≡ advices.Other
+    pub means : v.meaning ≡ advices.Other
 
   -- ---- the seven, each with what it needs and holds: nothing else is there
 

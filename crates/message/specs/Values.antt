@@ -1,5 +1,5 @@
 -- Document 01, "The restricted XML" and "The seven messages": what values mean, references replaced and line ends made one. Assumes nothing.
-use Rattle.std.specs.Prelude.{ℕ, zero, suc, ◌+◌, ◌-◌, ◌*◌, Bool, false, cond, ◌&&◌, ◌||◌, List, [], ◌∷◌, ltb, leb, eqb}
+use Rattle.std.specs.Prelude.{ℕ, zero, suc, ◌+◌, ◌-◌, ◌*◌, Bool, false, cond, ◌&&◌, ◌||◌, List, [], ◌∷◌, ltb, leb, eqb, Option, None, Some}
 use Rattle.laws.specs.Bytes.{same_bytes}
 use Rattle.message.specs.Class.{between, is_text}
 use Rattle.message.specs.Reading.{Reading, ◌>>=◌, is, byte_at, has}
@@ -8,8 +8,6 @@ use Rattle.message.specs.Characters.{Character}
 use Rattle.message.specs.Text.{special_at}
 use Rattle.message.specs.Markup.{bang_at}
 use Rattle.message.specs.Words.{char, ok_status, redundant_status, unreadable_message}
-use Rattle.message.specs.declared.Number.{Number}
-use Rattle.message.specs.declared.Number.TheVariants.{Nothing, Names}
 use Rattle.message.specs.declared.Status.{Status}
 use Rattle.message.specs.declared.Status.TheVariants as statuses
 use Rattle.message.specs.declared.Advice.{Advice}
@@ -58,14 +56,14 @@ means word (whole codes) = same_bytes codes word
 means word (refused number place) = false
 
 -- the digits after those that make the number n: it stays below 2^32
-unfoldable pub decimal_from : ℕ → List ℕ → Number
-decimal_from n [] = Names n
+unfoldable pub decimal_from : ℕ → List ℕ → Option ℕ
+decimal_from n [] = Some n
 decimal_from n (d ∷ digits) =
-    cond (between (char "0") (char "9") d && leb (n * 10 + (d - char "0")) 4294967295) (decimal_from (n * 10 + (d - char "0")) digits) Nothing
+    cond (between (char "0") (char "9") d && leb (n * 10 + (d - char "0")) 4294967295) (decimal_from (n * 10 + (d - char "0")) digits) None
 
-abbrev pub number_from : ℕ → Reading (List ℕ) → Number
+abbrev pub number_from : ℕ → Reading (List ℕ) → Option ℕ
 number_from n (whole codes) = decimal_from n codes
-number_from n (refused number place) = Nothing
+number_from n (refused number place) = None
 
 -- without leading zeros: a zero stands alone
 abbrev pub leading_zero : List ℕ → Bool
@@ -73,13 +71,13 @@ leading_zero [] = false
 leading_zero (d ∷ []) = false
 leading_zero (d ∷ e ∷ digits) = eqb d (char "0")
 
-unfoldable pub decimal_of : List ℕ → Number
-decimal_of [] = Nothing
-decimal_of (d ∷ digits) = cond (leading_zero (d ∷ digits)) Nothing (decimal_from 0 (d ∷ digits))
+unfoldable pub decimal_of : List ℕ → Option ℕ
+decimal_of [] = None
+decimal_of (d ∷ digits) = cond (leading_zero (d ∷ digits)) None (decimal_from 0 (d ∷ digits))
 
-abbrev pub number_of : Reading (List ℕ) → Number
+abbrev pub number_of : Reading (List ℕ) → Option ℕ
 number_of (whole codes) = decimal_of codes
-number_of (refused number place) = Nothing
+number_of (refused number place) = None
 
 abbrev pub status_of : Reading (List ℕ) → Status
 status_of meaning = cond (means ok_status meaning) statuses.Ok (cond (means redundant_status meaning) statuses.RedundantSession statuses.Other)
@@ -89,13 +87,13 @@ advice_of meaning = cond (means unreadable_message meaning) advices.UnreadableMe
 
 -- ---- the numbers of the meanings, as include/ali_link.h has them
 
-abbrev pub number_flag : Number → ℕ
-number_flag Nothing = 0
-number_flag (Names n) = 1
+abbrev pub number_flag : Option ℕ → ℕ
+number_flag None = 0
+number_flag (Some n) = 1
 
-abbrev pub number_named : Number → ℕ
-number_named Nothing = 0
-number_named (Names n) = n
+abbrev pub number_named : Option ℕ → ℕ
+number_named None = 0
+number_named (Some n) = n
 
 abbrev pub status_number : Status → ℕ
 status_number statuses.Ok = 1

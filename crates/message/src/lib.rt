@@ -2,11 +2,12 @@
 // XML" and "The seven messages", and `proofs/` the laws about them.
 #![tactic(auto)]
 
-ghost use Rattle.std.specs.Prelude.{◌≡◌};
 ghost use Rattle.message.specs.Messages.{kind_number};
-ghost use Rattle.message.specs.Values.{number_flag, number_named, status_number, advice_number};
+ghost use Rattle.message.specs.Reading.{reason_number};
+ghost use Rattle.message.specs.Values.{status_number, advice_number};
+ghost use Rattle.std.specs.Prelude.{◌≡◌};
 
-#[derive(Clone, Copy)]
+#[derive(Clone, Copy, PartialEq, Eq)]
 pub enum Kind {
     SessionOpenRequest,
     SessionOpenResponse,
@@ -17,12 +18,12 @@ pub enum Kind {
     Response,
 }
 
-impl Kind {
-    // The kind's number for C.
-    pub fn number(self) -> u32
-        ensures { result ≡ kind_number self }
-    {
-        match self {
+// The number for C; so are those of a status and an advice.
+impl From<Kind> for u32 {
+    ghost from_gives = { λ kind number. number ≡ kind_number kind };
+
+    fn from(kind: Kind) -> u32 {
+        match kind {
             Kind::SessionOpenRequest => 1,
             Kind::SessionOpenResponse => 2,
             Kind::SessionOk => 3,
@@ -34,46 +35,18 @@ impl Kind {
     }
 }
 
-// What a value that should be a number names.
-#[derive(Clone, Copy)]
-pub enum Number {
-    Nothing,
-    Names(u32),
-}
-
-impl Number {
-    // Whether it names one, as a number for C, and which one.
-    pub fn flag(self) -> u32
-        ensures { result ≡ number_flag self }
-    {
-        match self {
-            Number::Nothing => 0,
-            Number::Names(_) => 1,
-        }
-    }
-
-    pub fn named(self) -> u32
-        ensures { result ≡ number_named self }
-    {
-        match self {
-            Number::Nothing => 0,
-            Number::Names(number) => number,
-        }
-    }
-}
-
-#[derive(Clone, Copy)]
+#[derive(Clone, Copy, PartialEq, Eq)]
 pub enum Status {
     Ok,
     RedundantSession,
     Other,
 }
 
-impl Status {
-    pub fn number(self) -> u32
-        ensures { result ≡ status_number self }
-    {
-        match self {
+impl From<Status> for u32 {
+    ghost from_gives = { λ status number. number ≡ status_number status };
+
+    fn from(status: Status) -> u32 {
+        match status {
             Status::Ok => 1,
             Status::RedundantSession => 2,
             Status::Other => 0,
@@ -81,62 +54,76 @@ impl Status {
     }
 }
 
-#[derive(Clone, Copy)]
+#[derive(Clone, Copy, PartialEq, Eq)]
 pub enum Advice {
     UnreadableMessage,
     Other,
 }
 
-impl Advice {
-    pub fn number(self) -> u32
-        ensures { result ≡ advice_number self }
-    {
-        match self {
+impl From<Advice> for u32 {
+    ghost from_gives = { λ advice number. number ≡ advice_number advice };
+
+    fn from(advice: Advice) -> u32 {
+        match advice {
             Advice::UnreadableMessage => 1,
             Advice::Other => 0,
         }
     }
 }
 
-// A value: whether it is there, where it stands in the message, and what it means. A value that is not there, or that the kind does
-// not have, is 0 and 0.
-#[derive(Clone, Copy)]
-pub struct NumberValue {
+// A value: whether it is there, where it stands in the message, and what it means. A value that is not there, or that the kind does not have, is 0 and 0.
+// `there` stands beside the rest, and no Option around it: `Session::heard` takes any message, also one in which a value that is not there means something.
+#[derive(Clone, Copy, PartialEq, Eq)]
+pub struct Value<M> {
     pub there: bool,
     pub place: usize,
     pub length: usize,
-    pub number: Number,
+    pub meaning: M,
 }
 
-#[derive(Clone, Copy)]
-pub struct StatusValue {
-    pub there: bool,
-    pub place: usize,
-    pub length: usize,
-    pub status: Status,
-}
-
-#[derive(Clone, Copy)]
-pub struct TypeValue {
-    pub there: bool,
-    pub place: usize,
-    pub length: usize,
-    pub advice: Advice,
-}
-
-#[derive(Clone, Copy)]
+// What a number means is the number that it names, if any.
+#[derive(Clone, Copy, PartialEq, Eq)]
 pub struct Message {
     pub kind: Kind,
-    pub status: StatusValue,
-    pub id: NumberValue,
-    pub in_response_to: NumberValue,
-    pub in_relation_to: NumberValue,
-    pub advisory_type: TypeValue,
+    pub status: Value<Status>,
+    pub id: Value<Option<u32>>,
+    pub in_response_to: Value<Option<u32>>,
+    pub in_relation_to: Value<Option<u32>>,
+    pub advisory_type: Value<Advice>,
 }
 
-#[derive(Clone, Copy)]
-pub enum Answer {
-    Read(Message),
-    // The number of the refusal, 8 to 14, and its place.
-    Refused(u32, usize),
+// Why a message is refused.
+#[derive(Clone, Copy, PartialEq, Eq)]
+pub enum Reason {
+    TooLong,
+    NotWellFormed,
+    TooDeep,
+    TooManyAttributes,
+    LeftOut,
+    NoneOfTheSeven,
+    NameTooLong,
+}
+
+// Document 01's number of the refusal.
+impl From<Reason> for u32 {
+    ghost from_gives = { λ reason number. number ≡ reason_number reason };
+
+    fn from(reason: Reason) -> u32 {
+        match reason {
+            Reason::TooLong => 8,
+            Reason::NotWellFormed => 9,
+            Reason::TooDeep => 10,
+            Reason::TooManyAttributes => 11,
+            Reason::LeftOut => 12,
+            Reason::NoneOfTheSeven => 13,
+            Reason::NameTooLong => 14,
+        }
+    }
+}
+
+// The reason, and the place in the message at which it is seen.
+#[derive(Clone, Copy, PartialEq, Eq)]
+pub struct Refusal {
+    pub reason: Reason,
+    pub place: usize,
 }

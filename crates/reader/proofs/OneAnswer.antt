@@ -3,20 +3,16 @@ use mathlib.Core.Path.{◌≡◌, ◌∙◌, ap}
 use mathlib.Core.List.{List}
 use Prim.Native.Nat.{ℕ}
 use denote.Ref.{Bor}
+use Rattle.std.specs.Prelude.{Result}
 use Rattle.laws.proofs.OneAnswer.{one_answer, one_said}
 use Rattle.message.specs.Class.{class_of}
 use Rattle.message.specs.Limits.{link_limits}
-use Rattle.message.specs.Messages.{message_of, message_at, answer_said}
-use Rattle.message.specs.declared.Answer.{Answer}
-use Rattle.message.specs.declared.Answer.TheVariants as answers
+use Rattle.message.specs.Messages.{message_of, message_at}
+use Rattle.message.specs.Reading.{said}
+use Rattle.message.specs.declared.Message.{Message}
+use Rattle.message.specs.declared.Refusal.{Refusal}
+use Rattle.message.proofs.OneAnswer.{says_one_thing}
 use Rattle.reader.specs.declared.held.Reader.{Reader}
-
--- no two answers say the same
-pub answer_said_lem : (r r' : Answer) → answer_said r ≡ answer_said r' → r ≡ r'
-answer_said_lem (answers.Read m) (answers.Read m') same = cc
-answer_said_lem (answers.Read m) (answers.Refused n p) same = cc
-answer_said_lem (answers.Refused n p) (answers.Read m) same = cc
-answer_said_lem (answers.Refused n p) (answers.Refused n' p') same = cc
 
 -- a reader is its slice and its place
 reader_is : (src : Bor (List ℕ)) (r : Reader) → (r.src ≡ src) × (r.at ≡ 0) → r ≡ record { src = src; at = 0 }
@@ -25,11 +21,11 @@ reader_is src r keeps = ap (λ s. record { src = s; at = r.at }) keeps.0 ∙ ap 
 pub new_once : (src : Bor (List ℕ)) {r r' : Reader} → (r.src ≡ src) × (r.at ≡ 0) → (r'.src ≡ src) × (r'.at ≡ 0) → r ≡ r'
 new_once src {r = r} {r' = r'} keeps keeps' = one_answer (reader_is src r keeps) (reader_is src r' keeps')
 
-pub message_once : (r : Reader) {a a' : Answer}
-    → answer_said a ≡ message_at class_of link_limits r.src.now r.at
-    → answer_said a' ≡ message_at class_of link_limits r.src.now r.at → a ≡ a'
-message_once r = one_said answer_said answer_said_lem
+pub message_once : (self : Reader) {r r' : Result Message Refusal}
+    → said r ≡ message_at class_of link_limits self.src.now self.at
+    → said r' ≡ message_at class_of link_limits self.src.now self.at → r ≡ r'
+message_once self = one_said said says_one_thing
 
-pub read_once : (message : List ℕ) {r r' : Answer}
-    → answer_said r ≡ message_of class_of link_limits message → answer_said r' ≡ message_of class_of link_limits message → r ≡ r'
-read_once message = one_said answer_said answer_said_lem
+pub read_once : (message : List ℕ) {r r' : Result Message Refusal}
+    → said r ≡ message_of class_of link_limits message → said r' ≡ message_of class_of link_limits message → r ≡ r'
+read_once message = one_said said says_one_thing

@@ -1,4 +1,7 @@
 -- The seven messages, told by what the one pass holds on to of the root. Assumes nothing.
+use Rattle.std.specs.Prelude.{Result, Ok, Err}
+use Rattle.std.specs.Result.{IsErrAnd}
+use Rattle.std.proofs.lemmas.Result.{err_from_is_err_and}
 use Prim.Native.Nat.{ℕ, suc, ◌-◌}
 use mathlib.Core.Path.{◌≡◌, refl, sym, ◌∙◌, ap, subst}
 use mathlib.Core.Bool.{Bool, true, false, cond}
@@ -7,48 +10,31 @@ use native.Mathlib.Omega.{arith}
 use lib.ListN.{length}
 use lib.Dec.{eqb}
 use borrow.Author.Tests.{ne_eqb}
-use Rattle.message.specs.Reading.{Reading, ◌>>=◌, is_whole}
+use Rattle.message.specs.Reading.{Reading, ◌>>=◌, said, reason_number}
 use Rattle.message.specs.Reading.Reading.{whole, refused}
 use Rattle.message.specs.Names.{name_at}
 use Rattle.message.proofs.Laws.{went, stopped}
 use Rattle.message.specs.Limits.{link_limits}
 use Rattle.message.specs.Words.{advisory_type}
-use Rattle.message.specs.Elements.{part, Tag, Elements, Element, Quoted, element_at, document_at}
+use Rattle.message.specs.Elements.{part, Tag, Elements, Element, element_at, document_at}
 use Rattle.message.specs.Elements.Elements.{none, more}
-use Rattle.message.specs.Messages.{no_message, no_status, no_number, no_type, message, kind_of, Found, needed, found_in, called, only_child, first_called, attribute_called, attribute_of, type_advice, type_value, message_of_kind, message_at}
+use Rattle.message.specs.Messages.{found, no_message, kind_of, Found, needed, found_in, called, only_child, first_called, attribute_called, attribute_of, message_of_kind, message_at}
 use Rattle.elements.specs.Seen.{count, mark_of, typed_in, inside_of, seen_of, seen}
-use Rattle.reader.specs.Roots.{advice_seen, only_called, name_end, kind_named}
+use Rattle.reader.specs.Roots.{needed_said, only_called, name_end, kind_named}
 use Rattle.message.specs.declared.Kind.{Kind}
-use Rattle.message.specs.declared.StatusValue.{StatusValue}
-use Rattle.message.specs.Values.{content_meaning, advice_of}
-use Rattle.message.specs.declared.Advice.{Advice}
-use Rattle.message.specs.declared.Advice.TheVariants as advices
-use Rattle.message.specs.declared.TypeValue.{TypeValue}
-use Rattle.message.specs.declared.NumberValue.{NumberValue}
 use Rattle.message.specs.declared.Message.{Message}
+use Rattle.message.specs.declared.Refusal.{Refusal}
+use Rattle.elements.specs.declared.attributes.Span.{Span}
 use Rattle.elements.specs.declared.Inside.{Inside}
 use Rattle.elements.specs.declared.Seen.{Seen}
-use Rattle.message.proofs.Trees.{whole_same, unread}
+use Rattle.message.proofs.Trees.{whole_same}
 use Rattle.message.proofs.Seven.{only_child_lem}
 use Rattle.message.proofs.Facts.{then_whole, refused_then, Reads, Stands, element_stands, document_root}
 use Rattle.elements.proofs.ContentLoop.{seen_whole, seen_refused}
 
--- ---- a value that is needed
-
-module _ (a : Reading Quoted) (next : Found → Reading Message) where
-  pub needed_none : is_whole a ≡ false → refused 13 0 ≡ (needed (found_in a) >>= next)
-  needed_none h = go a h
-    where
-      go : (a : Reading Quoted) → is_whole a ≡ false → refused 13 0 ≡ (needed (found_in a) >>= next)
-      go (whole v) h = let z : ◌≡◌ {A = ℕ} 0 1 = cc in absurd (omega arith)
-      go (refused n p) h = refl
-
-  pub needed_some : is_whole a ≡ true → next (found_in a) ≡ (needed (found_in a) >>= next)
-  needed_some h = go a h
-    where
-      go : (a : Reading Quoted) → is_whole a ≡ true → next (found_in a) ≡ (needed (found_in a) >>= next)
-      go (whole v) h = refl
-      go (refused n p) h = let z : ◌≡◌ {A = ℕ} 0 1 = cc in absurd (omega arith)
+-- what a `?` hands on
+pub handed_on : {A : Type 0} (r : Result A Refusal) (e : Refusal) → IsErrAnd r (λ y. y ≡ e) → said r ≡ refused (reason_number e.reason) e.place
+handed_on r e same = let p = err_from_is_err_and r same in rw (p.1, p.2)
 
 module _ (class : ℕ → ℕ) (s : List ℕ) where
   abbrev level : ℕ → ℕ → Reading Element
@@ -102,23 +88,24 @@ module _ (class : ℕ → ℕ) (s : List ℕ) where
   pub typed_again : (depth : ℕ) (es : Elements) (x : Typed depth es) (b : ℕ) → b ≡ typed_in s es → level (suc depth) (b - 1) ≡ whole x.element
   typed_again depth es x b h = ap (λ (m : ℕ). level (suc depth) (m - 1)) (h ∙ x.place) ∙ x.reads
 
-  -- ---- values: v is what was found from the place e on, where the tag's name ends
+  -- ---- values, looked for from the place e on, where the tag's name ends
 
-  abbrev value_from : List ℕ → ℕ → Reading Quoted
-  value_from w e = attribute_called class link_limits s (length s) w e
+  abbrev found_from : List ℕ → ℕ → Found
+  found_from w e = found_in (attribute_called class link_limits s (length s) w e)
 
-  module _ (w : List ℕ) (tag : Tag) {v : Reading Quoted} {e : ℕ} (v-is : v ≡ value_from w e) (e-is : e ≡ tag.name.end) where
-    found_is : v ≡ value_from w tag.name.end
-    found_is = v-is ∙ ap (value_from w) e-is
+  module _ (w : List ℕ) (tag : Tag) {e : ℕ} (e-is : e ≡ tag.name.end) where
+    pub value_is : found_from w e ≡ attribute_of class link_limits s w tag
+    value_is = ap (found_from w) e-is
 
-    pub value_is : found_in v ≡ attribute_of class link_limits s w tag
-    value_is = ap found_in found_is
+    module _ (r : Result Span Refusal) (says : needed_said r ≡ needed (found_from w e)) (next : Found → Reading Message) where
+      needed_is : needed_said r ≡ needed (attribute_of class link_limits s w tag)
+      needed_is = says ∙ ap needed value_is
 
-    pub value_missing : (next : Found → Reading Message) → is_whole v ≡ false → refused 13 0 ≡ (needed (attribute_of class link_limits s w tag) >>= next)
-    value_missing next h = needed_none (value_from w tag.name.end) next (ap is_whole (sym found_is) ∙ h)
+      pub value_missing : {x : Refusal} → r ≡ Err x → refused (reason_number x.reason) x.place ≡ (needed (attribute_of class link_limits s w tag) >>= next)
+      value_missing r-is = stopped next (sym needed_is ∙ ap needed_said r-is)
 
-    pub value_there : (next : Found → Reading Message) → is_whole v ≡ true → next (found_in v) ≡ (needed (attribute_of class link_limits s w tag) >>= next)
-    value_there next h = ap next value_is ∙ needed_some (value_from w tag.name.end) next (ap is_whole (sym found_is) ∙ h)
+      pub value_there : {v : Span} → r ≡ Ok v → next (found v.from v.to) ≡ (needed (attribute_of class link_limits s w tag) >>= next)
+      value_there r-is = went next (sym needed_is ∙ ap needed_said r-is)
 
   -- ---- the root, held on to
 
@@ -159,15 +146,6 @@ module _ (class : ℕ → ℕ) (s : List ℕ) where
         let reads = subst (Reads class s link_limits (level 31)) alone stands.inner in
         record { child = x.0; only = x.1; end = sym (whole_same x.2); inner = (again 30 x.0.tag x.0.inside reads.0).inner; nested = ap (λ (i : Inside). i.nested) (inside_is ∙ ap (inside_of s) alone) }
 
--- ---- messages whose values are the same
-
-pub numbers_same : {k : Kind} {i i' r r' : NumberValue} → i ≡ i' → r ≡ r' → ◌≡◌ {A = Reading Message} (whole (message k no_status i r no_number no_type)) (whole (message k no_status i' r' no_number no_type))
-numbers_same p q = rw (p, q)
-
-pub message_same : {k : Kind} {u u' : StatusValue} {i i' r r' a a' : NumberValue} {y y' : TypeValue} → u ≡ u' → i ≡ i' → r ≡ r' → a ≡ a' → y ≡ y'
-    → ◌≡◌ {A = Reading Message} (whole (message k u i r a y)) (whole (message k u' i' r' a' y'))
-message_same p q o n m = rw (p, q, o, n, m)
-
 -- ---- the root of a message that was read
 
 pub record ReadRoot (class : ℕ → ℕ) (s : List ℕ) (at : ℕ) (held : Seen) : Type 0 where
@@ -192,7 +170,7 @@ module _ (class : ℕ → ℕ) (s : List ℕ) (at : ℕ) where
     kind_is : {a : Reading Kind} → kind_named class s held.begin ≡ a → kind_of (part s x.root.tag.name.local x.root.tag.name.end) ≡ a
     kind_is h = sym (root_kind_is class s held x.root x.reads x.held_is) ∙ h
 
-    pub message_unknown : kind_named class s held.begin ≡ no_message → refused 13 0 ≡ message_at class link_limits s at
+    pub message_unknown : {n p : ℕ} → kind_named class s held.begin ≡ refused n p → refused n p ≡ message_at class link_limits s at
     unfolding message_at
     message_unknown h = stopped _ (kind_is h) ∙ went _ x.document
 
@@ -203,27 +181,3 @@ module _ (class : ℕ → ℕ) (s : List ℕ) (at : ℕ) where
 -- with the same classes the same message is read
 pub classes_same : (s : List ℕ) (at : ℕ) {f g : ℕ → ℕ} → f ≡ g → message_at f link_limits s at ≡ message_at g link_limits s at
 classes_same s at h = ap (λ (f : ℕ → ℕ). message_at f link_limits s at) h
-
--- ---- the type's value, from the AdvisoryType that is read again at its place
-
-module _ (class : ℕ → ℕ) (s : List ℕ) (b : ℕ) (e : Element) (so : element_at class s link_limits 30 (b - 1) ≡ whole e) where
-  pub type_unread : {A : Type 0} {n p : ℕ} → seen s (element_at class s link_limits 30 (b - 1)) ≡ refused n p → A
-  type_unread q = unread (sym (seen_refused s (element_at class s link_limits 30 (b - 1)) q) ∙ so)
-
-  advice_is : (x : Element) → advice_seen class s (seen_of s x) ≡ type_advice class s x.inside x.tag.from x.tag.to
-  advice_is x = go x.inside
-    where
-      go : (es : Elements) → cond (eqb (inside_of s es).children 0) (advice_of (content_meaning class s (suc (length s)) x.tag.to x.tag.from)) advices.Other ≡ type_advice class s es x.tag.from x.tag.to
-      go none = refl
-      go (more t inner others) = rw (ne_eqb (suc (count others)) 0 (λ z. omega (arith, z)))
-
-  pub type_read : (held : Seen) {n : ℕ} {a : Advice} → seen s (element_at class s link_limits 30 (b - 1)) ≡ whole held → n ≡ held.to - held.from → a ≡ advice_seen class s held
-      → record { there = true; place = held.from; length = n; advice = a } ≡ type_value class s e
-  type_read held {n} {a} q n-is a-is =
-      let x = seen_whole s (element_at class s link_limits 30 (b - 1)) q in
-      let same : x.0 ≡ e = whole_same (sym x.1 ∙ so) in
-      let is : held ≡ seen_of s e = x.2 ∙ ap (seen_of s) same in
-      value_same (ap (λ (h : Seen). h.from) is) (n-is ∙ ap (λ (h : Seen). h.to - h.from) is) (a-is ∙ (ap (advice_seen class s) is ∙ advice_is e))
-    where
-      value_same : {f f' m m' : ℕ} {c c' : Advice} → f ≡ f' → m ≡ m' → c ≡ c' → ◌≡◌ {A = TypeValue} (record { there = true; place = f; length = m; advice = c }) (record { there = true; place = f'; length = m'; advice = c' })
-      value_same p o r = rw (p, o, r)

@@ -1,2 +1,2 @@
--- `Roots` says what the code reads again, and what its enum of kinds means.
+-- `Roots` says what the code reads again, and what it says of a kind and of a value.
 pub mod Roots

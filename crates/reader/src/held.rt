@@ -3,10 +3,11 @@
 ghost use Rattle.std.specs.Prelude.{◌≡◌};
 ghost use Rattle.message.specs.Class.{class_of};
 ghost use Rattle.message.specs.Limits.{link_limits};
-ghost use Rattle.message.specs.Messages.{message_at, answer_said};
+ghost use Rattle.message.specs.Messages.{message_at};
+ghost use Rattle.message.specs.Reading.{said};
 
 use crate::messages;
-use message::Answer;
+use message::{Message, Refusal};
 
 #[derive(Clone, Copy)]
 pub struct Reader<'a> {
@@ -14,16 +15,18 @@ pub struct Reader<'a> {
     at: usize,
 }
 
-// A message is lent to the reader, whose place is its start.
-pub fn new<'a>(src: &'a [u8]) -> Reader<'a>
-    ensures { (result.src ≡ src.entry) × (result.at ≡ 0) }
-{
-    Reader { src, at: 0 }
-}
+impl<'a> Reader<'a> {
+    // A message is lent to the reader, whose place is its start.
+    pub fn new(src: &'a [u8]) -> Reader<'a>
+        ensures { (result.src ≡ src.entry) × (result.at ≡ 0) }
+    {
+        Reader { src, at: 0 }
+    }
 
-// The message that stands from the reader's place on, or its refusal.
-pub fn message<'a>(r: Reader<'a>) -> Answer
-    ensures { answer_said result ≡ message_at class_of link_limits r.entry.src.now r.entry.at }
-{
-    messages::message(r.src, r.at)
+    // The message that stands from the reader's place on, or its refusal.
+    pub fn message(self) -> Result<Message, Refusal>
+        ensures { said result ≡ message_at class_of link_limits self.entry.src.now self.entry.at }
+    {
+        messages::message(self.src, self.at)
+    }
 }

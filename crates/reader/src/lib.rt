@@ -8,13 +8,15 @@ mod messages;
 ghost use Rattle.std.specs.Prelude.{◌≡◌};
 ghost use Rattle.message.specs.Class.{class_of};
 ghost use Rattle.message.specs.Limits.{link_limits};
-ghost use Rattle.message.specs.Messages.{message_of, answer_said};
+ghost use Rattle.message.specs.Messages.{message_of};
+ghost use Rattle.message.specs.Reading.{said};
 
-use message::Answer;
+use crate::held::Reader;
+use message::{Message, Refusal};
 
-// Reads a message: its kind and values, or the number and the place of the refusal.
-pub fn read(message: &[u8]) -> Answer
-    ensures { answer_said result ≡ message_of class_of link_limits message.now }
+// Reads a message: its kind and values, or the reason and the place of the refusal.
+pub fn read(message: &[u8]) -> Result<Message, Refusal>
+    ensures { said result ≡ message_of class_of link_limits message.now }
 {
-    held::message(held::new(message))
+    Reader::new(message).message()
 }

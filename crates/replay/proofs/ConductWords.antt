@@ -8,10 +8,9 @@ use lib.Dec.{eqb}
 use lib.ListN.{length, take}
 use lib.Seq.{take_all}
 use borrow.Author.Tests.{eqb-true}
+use Rattle.std.proofs.lemmas.Bool.{and_parts, both_ways, cond_both}
 use Rattle.laws.specs.Bytes.{same_bytes}
-use Rattle.laws.proofs.Tests.{true_false, cond_cases}
 use Rattle.laws.proofs.Tails.{same_eq}
-use Rattle.message.proofs.Laws.{both_first, both_second}
 use Rattle.message.specs.Words.{codes}
 use Rattle.conduct.specs.declared.Conduct.{Conduct}
 use Rattle.conduct.specs.declared.Conduct.TheVariants.{New, Old}
@@ -45,8 +44,8 @@ numbered_none line = numbered_each None line (λ n _. refl) (λ n _. refl) (λ n
 is_the_word : (word line : List ℕ) → is_word word line ≡ true → line ≡ word
 is_the_word word line h =
     let long : Bool = eqb (length line) (length word) in
-    let as_long = eqb-true (length line) (length word) (both_first long (same_bytes (take (length word) line) word) h) in
-    let same = same_eq (take (length word) line) word (both_second long (same_bytes (take (length word) line) word) h) in
+    let as_long = eqb-true (length line) (length word) (and_parts long (same_bytes (take (length word) line) word) h).0 in
+    let same = same_eq (take (length word) line) word (and_parts long (same_bytes (take (length word) line) word) h).1 in
     sym (take_all (length word) line (omega (arith, as_long))) ∙ same
 
 -- ---- words that say a conduct
@@ -64,15 +63,15 @@ other_conduct j k differ e = differ (ap first e)
 worded : (k : Conduct) (w : List ℕ) → conducts_in (worded_of w) ≡ k ∷ [] → w ≡ words_for k
 unfolding worded_of
 worded New w =
-    cond_cases Said (is_word (codes "conduct new") w) (λ h _. is_the_word (codes "conduct new") w h)
-    (λ _. cond_cases Said (is_word (codes "conduct old") w) (λ _ e. absurd (other_conduct Old New (λ d. true_false refl d) e))
+    cond_both (is_word (codes "conduct new") w) _ _ Said (λ h _. is_the_word (codes "conduct new") w h)
+    (λ _. cond_both (is_word (codes "conduct old") w) _ _ Said (λ _ e. absurd (other_conduct Old New (λ d. both_ways _ d refl) e))
     (λ _ e. absurd (unsaid (numbered_none w) e)))
   where
     Said : Line → Type 0
     Said line = conducts_in line ≡ New ∷ [] → w ≡ words_for New
 worded Old w =
-    cond_cases Said (is_word (codes "conduct new") w) (λ _ e. absurd (other_conduct New Old (λ d. true_false d refl) e))
-    (λ _. cond_cases Said (is_word (codes "conduct old") w) (λ h _. is_the_word (codes "conduct old") w h) (λ _ e. absurd (unsaid (numbered_none w) e)))
+    cond_both (is_word (codes "conduct new") w) _ _ Said (λ _ e. absurd (other_conduct New Old (λ d. both_ways _ refl d) e))
+    (λ _. cond_both (is_word (codes "conduct old") w) _ _ Said (λ h _. is_the_word (codes "conduct old") w h) (λ _ e. absurd (unsaid (numbered_none w) e)))
   where
     Said : Line → Type 0
     Said line = conducts_in line ≡ Old ∷ [] → w ≡ words_for Old

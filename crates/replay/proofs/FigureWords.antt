@@ -1,4 +1,5 @@
 -- THEOREM `figures_by_their_words`: a line sets a figure exactly if it is its word and a number of any size behind it (specs/Settings). Assumes nothing.
+use Rattle.std.specs.Prelude.{Option, None, Some}
 use mathlib.Core.Path.{◌≡◌, refl, sym, ap, subst, ◌∙◌}
 use mathlib.Core.Logic.{inl, inr}
 use mathlib.Core.Bool.{true, false, ◌&&◌}
@@ -9,15 +10,13 @@ use lib.Dec.{leb, eqb}
 use lib.ListN.{length, take, drop, take-append-drop}
 use lib.Seq.{take_at, drop_at}
 use borrow.Author.Tests.{ne_eqb}
+use Rattle.std.proofs.lemmas.Bool.{and_parts, and_right, cond_both}
 use Rattle.laws.specs.Bytes.{same_bytes}
-use Rattle.laws.proofs.Tests.{and_last, cond_cases}
 use Rattle.laws.proofs.Tails.{same_refl, same_eq}
-use Rattle.message.proofs.Laws.{and_true, both_first}
+use Rattle.message.proofs.Laws.{and_true}
 use Rattle.message.specs.Class.{between}
 use Rattle.message.specs.Words.{codes}
 use Rattle.message.specs.Values.{leading_zero, decimal_from, decimal_of, number_flag, number_named}
-use Rattle.message.specs.declared.Number.{Number}
-use Rattle.message.specs.declared.Number.TheVariants.{Nothing, Names}
 use Rattle.conduct.specs.Lists.{all}
 use Rattle.replay.specs.declared.script.Line.{Line}
 use Rattle.replay.specs.declared.script.Line.TheVariants as lines
@@ -29,47 +28,47 @@ use Rattle.replay.specs.Settings.{Says, ByItsWord, FiguresByTheirWords}
 
 -- ---- a number of 32 bits is one of any size
 
-unnamed : {n : ℕ} → Nothing ≡ Names n → ⊥
+unnamed : {n : ℕ} → None ≡ Some n → ⊥
 unnamed e = omega (arith, ap number_flag e)
 
-digits_from : (n : ℕ) (text : List ℕ) {m : ℕ} → decimal_from n text ≡ Names m → all is_digit text ≡ true
+digits_from : (n : ℕ) (text : List ℕ) {m : ℕ} → decimal_from n text ≡ Some m → all is_digit text ≡ true
 unfolding decimal_from
 digits_from n [] = λ _. refl
 digits_from n (d ∷ text) {m} =
     let next : ℕ = n * 10 + (d - 48) in
-    cond_cases Digits {x = decimal_from next text} {y = Nothing} (between 48 57 d && leb next 4294967295)
-    (λ h e. sym (and_true (all is_digit text) (both_first (between 48 57 d) (leb next 4294967295) h)) ∙ digits_from next text e)
+    cond_both (between 48 57 d && leb next 4294967295) (decimal_from next text) None Digits
+    (λ h e. sym (and_true (all is_digit text) (and_parts (between 48 57 d) (leb next 4294967295) h).0) ∙ digits_from next text e)
     (λ _ e. absurd (unnamed e))
   where
-    Digits : Number → Type 0
-    Digits x = x ≡ Names m → all is_digit (d ∷ text) ≡ true
+    Digits : Option ℕ → Type 0
+    Digits x = x ≡ Some m → all is_digit (d ∷ text) ≡ true
 
-is_decimal_lem : (text : List ℕ) {n : ℕ} → decimal_of text ≡ Names n → is_decimal text ≡ true
+is_decimal_lem : (text : List ℕ) {n : ℕ} → decimal_of text ≡ Some n → is_decimal text ≡ true
 unfolding decimal_of
 is_decimal_lem [] = λ e. absurd (unnamed e)
 is_decimal_lem (d ∷ text) {n} =
-    cond_cases Decimal {x = Nothing} {y = decimal_from 0 (d ∷ text)} (leading_zero (d ∷ text)) (λ _ e. absurd (unnamed e))
+    cond_both (leading_zero (d ∷ text)) None (decimal_from 0 (d ∷ text)) Decimal (λ _ e. absurd (unnamed e))
     (λ h e. rw h (digits_from 0 (d ∷ text) e))
   where
-    Decimal : Number → Type 0
-    Decimal x = x ≡ Names n → is_decimal (d ∷ text) ≡ true
+    Decimal : Option ℕ → Type 0
+    Decimal x = x ≡ Some n → is_decimal (d ∷ text) ≡ true
 
 -- ---- the figure that a text says
 
 module _ (text : List ℕ) where
-  figure_fits : {n : ℕ} → decimal_of text ≡ Names n → figure_of text ≡ Names n
+  figure_fits : {n : ℕ} → decimal_of text ≡ Some n → figure_of text ≡ Some n
   figure_fits e = rw e
 
-  figure_too_long : decimal_of text ≡ Nothing → is_decimal text ≡ true → figure_of text ≡ Names 4294967295
+  figure_too_long : decimal_of text ≡ None → is_decimal text ≡ true → figure_of text ≡ Some 4294967295
   figure_too_long e long = rw (e, long)
 
-  figure_only : (n : ℕ) → figure_of text ≡ Names n → Says text n
+  figure_only : (n : ℕ) → figure_of text ≡ Some n → Says text n
   figure_only n =
-      by_number Said (decimal_of text) Names _ (λ m e f. (is_decimal_lem text e, inl (e ∙ f)))
-      (λ e. cond_cases Said (is_decimal text) (λ h f. (h, inr (e, sym (ap number_named f)))) (λ _ f. absurd (unnamed f)))
+      by_number Said (decimal_of text) Some _ (λ m e f. (is_decimal_lem text e, inl (e ∙ f)))
+      (λ e. cond_both (is_decimal text) _ _ Said (λ h f. (h, inr (e, sym (ap number_named f)))) (λ _ f. absurd (unnamed f)))
     where
-      Said : Number → Type 0
-      Said x = x ≡ Names n → Says text n
+      Said : Option ℕ → Type 0
+      Said x = x ≡ Some n → Says text n
 
 -- ---- the word before it
 
@@ -77,15 +76,15 @@ module _ (word : List ℕ) where
   behind_word : (text : List ℕ) → figure_behind word (word ++ text) ≡ figure_of text
   behind_word text = rw (take_at word text (length word) refl, same_refl word, drop_at word text (length word) refl)
 
-  word_before : (w : List ℕ) (n : ℕ) → figure_behind word w ≡ Names n → (text : List ℕ) × (w ≡ word ++ text) × Says text n
+  word_before : (w : List ℕ) (n : ℕ) → figure_behind word w ≡ Some n → (text : List ℕ) × (w ≡ word ++ text) × Says text n
   word_before w n =
-      cond_cases Said {x = figure_of text} {y = Nothing} (begins word w) (λ h e. (text, split h, figure_only text n e)) (λ _ e. absurd (unnamed e))
+      cond_both (begins word w) (figure_of text) None Said (λ h e. (text, split h, figure_only text n e)) (λ _ e. absurd (unnamed e))
     where
       text : List ℕ
       text = drop (length word) w
 
-      Said : Number → Type 0
-      Said x = x ≡ Names n → (text : List ℕ) × (w ≡ word ++ text) × Says text n
+      Said : Option ℕ → Type 0
+      Said x = x ≡ Some n → (text : List ℕ) × (w ≡ word ++ text) × Says text n
 
       split : begins word w ≡ true → w ≡ word ++ drop (length word) w
       split h = sym (take-append-drop (length word) w) ∙ ap (λ (l : List ℕ). l ++ drop (length word) w) (same_eq (take (length word) w) word h)
@@ -93,9 +92,9 @@ module _ (word : List ℕ) where
 -- ---- what a line says: each figure stands behind its own word
 
 abbrev Heard : List ℕ → Setting → Type 0
-Heard w (settings.Interval n) = figure_behind (codes "interval ") w ≡ Names n
+Heard w (settings.Interval n) = figure_behind (codes "interval ") w ≡ Some n
 Heard w (settings.Conduct conduct) = Unit
-Heard w (settings.Resends n) = figure_behind (codes "resends ") w ≡ Names n
+Heard w (settings.Resends n) = figure_behind (codes "resends ") w ≡ Some n
 
 abbrev HeardIn : List ℕ → Line → Type 0
 HeardIn w lines.Nothing = Unit
@@ -109,8 +108,8 @@ HeardIn w lines.Bad = Unit
 heard_worded : (w : List ℕ) → HeardIn w (worded_of w)
 unfolding worded_of
 heard_worded w =
-    cond_cases (HeardIn w) (is_word (codes "conduct new") w) (λ _. tt)
-    (λ _. cond_cases (HeardIn w) (is_word (codes "conduct old") w) (λ _. tt)
+    cond_both (is_word (codes "conduct new") w) _ _ (HeardIn w) (λ _. tt)
+    (λ _. cond_both (is_word (codes "conduct old") w) _ _ (HeardIn w) (λ _. tt)
     (λ _. numbered_each (HeardIn w) w (λ n e. e) (λ n e. e) (λ n. tt) (λ c. tt) (λ n. tt) tt))
 
 heard : (w : List ℕ) → HeardIn w (line_of w)
@@ -124,7 +123,7 @@ module _ (b : ℕ) (rest : List ℕ) where
   begins_not c word e = rw e
 
   is_not : (c : ℕ) (word : List ℕ) → eqb b c ≡ false → is_word (c ∷ word) (b ∷ rest) ≡ false
-  is_not c word e = and_last (eqb (length (b ∷ rest)) (length (c ∷ word))) (begins_not c word e)
+  is_not c word e = and_right (eqb (length (b ∷ rest)) (length (c ∷ word))) _ (begins_not c word e)
 
   alone : eqb b 116 ≡ false → eqb b 99 ≡ false → eqb b 108 ≡ false → eqb b 115 ≡ false → eqb b 109 ≡ false
       → line_of (b ∷ rest) ≡ numbered_of (b ∷ rest)
@@ -141,21 +140,21 @@ module _ (b : ℕ) (rest : List ℕ) where
         is_not 99 (codes "onduct old") c,
       )
 
-interval_line : (text : List ℕ) (n : ℕ) → figure_of text ≡ Names n → line_of (codes "interval " ++ text) ≡ lines.Set (settings.Interval n)
+interval_line : (text : List ℕ) (n : ℕ) → figure_of text ≡ Some n → line_of (codes "interval " ++ text) ≡ lines.Set (settings.Interval n)
 unfolding numbered_of
 interval_line text n e =
     alone 105 (codes "nterval " ++ text) refl refl refl refl refl
     ∙ rw (behind_word (codes "interval ") text ∙ e)
 
-resends_line : (text : List ℕ) (n : ℕ) → figure_of text ≡ Names n → line_of (codes "resends " ++ text) ≡ lines.Set (settings.Resends n)
+resends_line : (text : List ℕ) (n : ℕ) → figure_of text ≡ Some n → line_of (codes "resends " ++ text) ≡ lines.Set (settings.Resends n)
 unfolding numbered_of
 resends_line text n e =
     alone 114 (codes "esends " ++ text) refl refl refl refl refl
     ∙ rw (begins_not 114 (codes "esends " ++ text) 105 (codes "nterval ") refl, behind_word (codes "resends ") text ∙ e)
 
 by_its_word : (word : List ℕ) (say : ℕ → Setting)
-    → ((text : List ℕ) (n : ℕ) → figure_of text ≡ Names n → line_of (word ++ text) ≡ lines.Set (say n))
-    → ((w : List ℕ) (n : ℕ) → Heard w (say n) → figure_behind word w ≡ Names n) → ByItsWord word say
+    → ((text : List ℕ) (n : ℕ) → figure_of text ≡ Some n → line_of (word ++ text) ≡ lines.Set (say n))
+    → ((w : List ℕ) (n : ℕ) → Heard w (say n) → figure_behind word w ≡ Some n) → ByItsWord word say
 by_its_word word say said own =
     record {
       fits = λ text n e. said text n (figure_fits text e);

@@ -1,7 +1,6 @@
--- `Digits` has the laws of a number of any size, `Words` those of a word and the number behind it, `Written` those of the fields of a line,
--- and `Turns` those of the program's own functions. `Whole` has the theorem on a whole script, `ConductWords`, `FigureWords`, `Settings`,
--- `Refused`, `Behind` and `AtWork` those on its settings; `Settle` says what these do, and `Ready` when they end.
-mod Digits
+-- `Words` has the laws of a word and the number behind it, `Written` those of the lines of events, and `Turns` those of the program's own
+-- functions. `Whole` has the theorem on a whole script, `ConductWords`, `FigureWords`, `Settings`, `Refused`, `Behind` and `AtWork` those on
+-- its settings; `Settle` says what these do, and `Ready` when they end.
 mod Words
 mod Written
 mod Turns

@@ -3,8 +3,7 @@ use mathlib.Core.Path.{◌≡◌, refl, ap, ◌∙◌}
 use mathlib.Core.Bool.{Bool, true, false, not}
 use mathlib.Core.List.{List, [], ◌∷◌, ◌++◌}
 use Prim.Native.Nat.{ℕ}
-use Rattle.laws.proofs.Tests.{true_false}
-use Rattle.message.proofs.Laws.{both_first, both_second}
+use Rattle.std.proofs.lemmas.Bool.{and_parts, both_ways}
 use Rattle.framing.specs.Stream.{StreamItem, empty, message, too_long}
 use Rattle.conduct.specs.Lists.{flat, all}
 use Rattle.conduct.specs.declared.Site.{Site}
@@ -48,11 +47,11 @@ set_one run lines.Nothing e h = record { settling = e; site_is = refl }
 set_one run (lines.Set (settings.Interval interval)) e h = record { settling = e; site_is = refl }
 set_one run (lines.Set (settings.Conduct conduct)) e h = record { settling = e; site_is = refl }
 set_one run (lines.Set (settings.Resends resends)) e h = record { settling = e; site_is = refl }
-set_one run (lines.Ticks count) e h = absurd (true_false refl h)
-set_one run (lines.Other call) e h = absurd (true_false refl h)
-set_one run lines.Message e h = absurd (true_false refl h)
-set_one run (lines.Last last) e h = absurd (true_false refl h)
-set_one run lines.Bad e h = absurd (true_false refl h)
+set_one run (lines.Ticks count) e h = absurd (both_ways _ h refl)
+set_one run (lines.Other call) e h = absurd (both_ways _ h refl)
+set_one run lines.Message e h = absurd (both_ways _ h refl)
+set_one run (lines.Last last) e h = absurd (both_ways _ h refl)
+set_one run lines.Bad e h = absurd (both_ways _ h refl)
 
 -- ---- lines one after the other
 
@@ -79,10 +78,10 @@ settle [] run e h = (refl, record { settling = e; site_is = refl })
 settle (x ∷ xs) run e h =
     let sets : Bool = is_setting_or_empty (line_in x) in
     let rest : Bool = all (λ (x : StreamItem). is_setting_or_empty (line_in x)) xs in
-    let goes_on = ends_unless (line_in x) ∙ ap not (both_first sets rest h) in
+    let goes_on = ends_unless (line_in x) ∙ ap not (and_parts sets rest h).0 in
     let here = taken_item_lem run x e goes_on in
     let one = set_one run (line_in x) e goes_on in
-    let later = settle xs (next_line (set run (line_in x))) one.settling (both_second sets rest h) in (
+    let later = settle xs (next_line (set run (line_in x))) one.settling (and_parts sets rest h).1 in (
       ap (λ (d : Done). (settle_on xs d).printed) here ∙ later.0,
       record {
         settling = ap (λ (d : Done). (settle_on xs d).run.phase) here ∙ later.1.settling;

@@ -2,7 +2,9 @@
 -- Assumes nothing.
 use mathlib.Core.Path.{◌≡◌, refl, sym, ap, ◌∙◌}
 use mathlib.Core.List.{List, []}
-use Prim.Native.Nat.{ℕ, zero, suc, ◌-◌, ◌≤◌, ◌<◌}
+use mathlib.Core.Bool.{false}
+use lib.Dec.{eqb}
+use Prim.Native.Nat.{ℕ, zero, suc, ◌+◌, ◌-◌, ◌≤◌, ◌<◌}
 use native.Mathlib.Omega.{arith}
 use lib.ListN.{length, take, drop, length-take, length-drop}
 use lib.Seq.{take_all}
@@ -13,11 +15,14 @@ use Rattle.message.specs.Messages.{message_of}
 use Rattle.conduct.specs.declared.Call.{Call}
 use Rattle.conduct.specs.declared.Call.TheVariants as calls
 use Rattle.session.specs.declared.Session.{Session}
-use Rattle.session.specs.declared.Told.{Told}
-use Rattle.session.specs.Answers.{call_of, told}
+use Rattle.session.specs.Answers.{Told, call_of, told}
+use Rattle.session.specs.Answers.{refusal_number as number_of_why}
+use Rattle.session.specs.declared.Refusal.{Refusal as Why}
+use Rattle.session.specs.declared.Refusal.TheVariants as whys
 use Rattle.session.proofs.Histories.{list_fits}
-use Rattle.framing.specs.declared.Answer.{Answer}
-use Rattle.framing.specs.Cutting.{link_limit, store_after}
+use Rattle.framing.specs.declared.Refusal.{Refusal}
+use Rattle.framing.specs.declared.Taken.{Taken}
+use Rattle.framing.specs.Cutting.{link_limit, store_after, refusal_number, refused_with, taken_said}
 use Rattle.replay.specs.declared.script.Line.{Line}
 use Rattle.replay.specs.declared.script.Line.TheVariants as lines
 use Rattle.replay.specs.declared.runs.Phase.{Phase}
@@ -35,6 +40,14 @@ use Rattle.replay.specs.Turns.{boundary, answer_in, taken_after, done_of_turn, t
 pub events_fit : (d : Session) (c : Call) {t : Told} → t ≡ told 40 d c → t.events.count ≤ 40
 events_fit d c is = rw is (list_fits 40 d c).0
 
+-- a call that is refused is so by a number other than 0
+pub refused_by_a_number : (why : Why) → eqb (number_of_why why) 0 ≡ false
+refused_by_a_number whys.ListTooShort = refl
+refused_by_a_number whys.Stopped = refl
+refused_by_a_number whys.OutOfState = refl
+refused_by_a_number whys.TooManyPushes = refl
+refused_by_a_number whys.Inconsistent = refl
+
 pub called_run : (run : Run) (c : Call) {t : Told} {next : Run} → t ≡ told 40 run.session c → next ≡ after_call run t
     → next ≡ (called run c).run
 unfolding called
@@ -49,13 +62,13 @@ heard_run run bytes is after =
     ∙ ap (λ (w : List ℕ). (called run (call_of (message_of class_of link_limits w))).run)
     (take_all (length bytes - 8) (drop 8 bytes) (omega (arith, length-drop 8 bytes)))
 
-pub tick_on : (n : ℕ) (run : Run) {t : Told} {next : Run} → 0 < n → t ≡ told 40 run.session calls.Tick → next ≡ after_call run t
-    → (ticked (n - 1) next).run ≡ (ticked n run).run
+pub tick_on : (n left : ℕ) (run : Run) {t : Told} {next : Run} → 0 < n → n ≡ left + 1 → t ≡ told 40 run.session calls.Tick
+    → next ≡ after_call run t → (ticked left next).run ≡ (ticked n run).run
 unfolding ticked called
-tick_on zero run some is after = absurd (omega arith)
-tick_on (suc n) run some is after =
-    let less : suc n - 1 ≡ n = omega arith in
-    rw (less, after, is)
+tick_on zero left run some one is after = absurd (omega arith)
+tick_on (suc n) left run some one is after =
+    let same : left ≡ n = omega arith in
+    rw (same, after, is)
 
 pub no_more_ticks : (n : ℕ) (run : Run) → n ≤ 0 → run ≡ (ticked n run).run
 unfolding ticked
@@ -72,11 +85,17 @@ taken_ready before {run} line bytes ready is =
 
 -- ---- a call of the framing
 
-pub turn_is : (s p : List ℕ) (h : Held) {said : Answer} {left : List ℕ} {run : Run} → said ≡ answer_in s p h
-    → left ≡ store_after link_limit boundary s p h.gathered 0 → run ≡ (taken_after h.run said.item left).run
-    → ◌≡◌ {A = Turn} (record { taken = said.taken; held = record { gathered = said.gathered; run = run } }) (turn_of s p h)
-unfolding done_of_turn turn_of
-turn_is s p h is leaves does = rw (does, is, leaves)
+module _ (s p : List ℕ) (h : Held) where
+  pub turn_is : (t : Taken) {left : List ℕ} {run : Run} → taken_said t ≡ answer_in s p h
+      → left ≡ store_after link_limit boundary s p h.gathered 0 → run ≡ (taken_after h.run t.item left).run
+      → ◌≡◌ {A = Turn} (record { taken = t.taken; held = record { gathered = t.held.gathered; run = run } }) (turn_of s p h)
+  unfolding done_of_turn turn_of
+  turn_is t is leaves does = rw (does, leaves, ← is)
+
+  pub refused_turn_is : (why : Refusal) → refused_with (refusal_number why) h.gathered 0 ≡ answer_in s p h
+      → ◌≡◌ {A = Turn} (record { taken = 0; held = h }) (turn_of s p h)
+  unfolding done_of_turn turn_of taken_after
+  refused_turn_is why is = rw (← is)
 
 -- ---- the bytes that wait at the end: the first g of the store, as far as it goes
 

@@ -6,7 +6,7 @@ use Rattle.conduct.specs.declared.Event.{Event}
 use Rattle.conduct.specs.Session.{state_number}
 use Rattle.session.specs.Rows.{list_of}
 use Rattle.session.specs.declared.Session.{Session}
-use Rattle.session.specs.declared.Told.{Told}
+use Rattle.session.specs.Answers.{Told}
 use Rattle.replay.specs.declared.runs.Phase.{Phase}
 use Rattle.replay.specs.declared.runs.Phase.TheVariants.{Settling, Running, Refused}
 use Rattle.replay.specs.declared.runs.Run.{Run}

@@ -7,9 +7,8 @@ use Rattle.conduct.specs.declared.Call.{Call}
 use Rattle.conduct.specs.declared.Call.TheVariants as calls
 use Rattle.conduct.specs.declared.Site.{Site}
 use Rattle.conduct.specs.Session.{usual, at_interval, in_conduct, with_resends}
-use Rattle.session.specs.declared.Told.{Told}
+use Rattle.session.specs.Answers.{Told, call_of, told}
 use Rattle.session.specs.Record.{made_of, with_last}
-use Rattle.session.specs.Answers.{call_of, told}
 use Rattle.replay.specs.declared.script.Line.{Line}
 use Rattle.replay.specs.declared.script.Line.TheVariants as lines
 use Rattle.replay.specs.declared.script.Setting.{Setting}

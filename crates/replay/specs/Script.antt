@@ -1,11 +1,9 @@
 -- What a line of a script stands for (INTERFACES, "replay"). Assumes nothing.
-use Rattle.std.specs.Prelude.{Bool, false, cond, not, ◌&&◌, List, [], ◌∷◌, ℕ, leb, eqb, length, take, drop}
+use Rattle.std.specs.Prelude.{Bool, false, cond, not, ◌&&◌, List, [], ◌∷◌, ℕ, leb, eqb, length, take, drop, Option, None, Some}
 use Rattle.laws.specs.Bytes.{same_bytes}
 use Rattle.message.specs.Values.{leading_zero, decimal_of}
 use Rattle.message.specs.Class.{between}
 use Rattle.message.specs.Words.{codes}
-use Rattle.message.specs.declared.Number.{Number}
-use Rattle.message.specs.declared.Number.TheVariants.{Nothing, Names}
 use Rattle.conduct.specs.declared.Pushed.TheVariants as pushed
 use Rattle.conduct.specs.declared.Call.TheVariants as calls
 use Rattle.conduct.specs.declared.Conduct.TheVariants.{New, Old}
@@ -23,17 +21,17 @@ abbrev pub begins : List ℕ → List ℕ → Bool
 begins word line = same_bytes (take (length word) line) word
 
 -- the number that stands behind the word, which ends with a space: decimal, without leading zeros, below 2^32
-abbrev pub behind : List ℕ → List ℕ → Number
-behind word line = cond (begins word line) (decimal_of (drop (length word) line)) Nothing
+abbrev pub behind : List ℕ → List ℕ → Option ℕ
+behind word line = cond (begins word line) (decimal_of (drop (length word) line)) None
 
 -- so many ticks, 1 to 1,000,000
 abbrev pub ticks_of : ℕ → Line
 ticks_of n = cond (leb 1 n && leb n 1000000) (lines.Ticks n) lines.Bad
 
 -- what stands for a number that is there, or else the other
-abbrev pub or_else : {A : Type 0} → Number → (ℕ → A) → A → A
-or_else (Names n) of other = of n
-or_else Nothing of other = other
+abbrev pub or_else : {A : Type 0} → Option ℕ → (ℕ → A) → A → A
+or_else (Some n) of other = of n
+or_else None of other = other
 
 -- a number of any size, without leading zeros
 abbrev pub is_digit : ℕ → Bool
@@ -45,12 +43,12 @@ is_decimal (d ∷ digits) = not (leading_zero (d ∷ digits)) && all is_digit (d
 
 -- a figure that a setting says: a number of any size without leading zeros; one that is too long for 32 bits stands for the greatest
 -- number, which the making refuses as it would the other
-abbrev pub figure_of : List ℕ → Number
-figure_of text = or_else (decimal_of text) Names (cond (is_decimal text) (Names 4294967295) Nothing)
+abbrev pub figure_of : List ℕ → Option ℕ
+figure_of text = or_else (decimal_of text) Some (cond (is_decimal text) (Some 4294967295) None)
 
 -- the figure that stands behind the word, which ends with a space
-abbrev pub figure_behind : List ℕ → List ℕ → Number
-figure_behind word line = cond (begins word line) (figure_of (drop (length word) line)) Nothing
+abbrev pub figure_behind : List ℕ → List ℕ → Option ℕ
+figure_behind word line = cond (begins word line) (figure_of (drop (length word) line)) None
 
 abbrev pub an_interval : ℕ → Line
 an_interval n = lines.Set (settings.Interval n)

@@ -2,10 +2,9 @@
 -- what the session is made with, that it keeps it, and what a refused making prints. (proofs/ConductWords, FigureWords, Settings, Alone, Refused,
 -- Behind, AtWork)
 -- Assumes nothing.
-use Rattle.std.specs.Prelude.{◌≡◌, Bool, true, false, ◌⊎◌, List, [], ◌∷◌, ◌++◌, map, ℕ}
+use Rattle.std.specs.Prelude.{◌≡◌, Bool, true, false, ◌⊎◌, List, [], ◌∷◌, ◌++◌, map, ℕ, None, Some}
 use Rattle.message.specs.Words.{codes}
 use Rattle.message.specs.Values.{decimal_of}
-use Rattle.message.specs.declared.Number.TheVariants.{Nothing, Names}
 use Rattle.framing.specs.Stream.{StreamItem, empty, message, too_long}
 use Rattle.conduct.specs.Lists.{flat, all}
 use Rattle.conduct.specs.declared.Conduct.{Conduct}
@@ -64,12 +63,12 @@ ConductsAtWork =
 
 -- the text is a number of any size without leading zeros, and says n: the number itself, or the greatest where it is too long for 32 bits
 abbrev pub Says : List ℕ → ℕ → Type 0
-Says text n = (is_decimal text ≡ true) × ((decimal_of text ≡ Names n) ⊎ ((decimal_of text ≡ Nothing) × (n ≡ 4294967295)))
+Says text n = (is_decimal text ≡ true) × ((decimal_of text ≡ Some n) ⊎ ((decimal_of text ≡ None) × (n ≡ 4294967295)))
 
 -- a line sets a figure exactly if it is its word and such a text
 pub record ByItsWord (word : List ℕ) (say : ℕ → Setting) : Type 0 where
-  pub fits : (text : List ℕ) (n : ℕ) → decimal_of text ≡ Names n → line_of (word ++ text) ≡ lines.Set (say n)
-  pub too_long : (text : List ℕ) → decimal_of text ≡ Nothing → is_decimal text ≡ true → line_of (word ++ text) ≡ lines.Set (say 4294967295)
+  pub fits : (text : List ℕ) (n : ℕ) → decimal_of text ≡ Some n → line_of (word ++ text) ≡ lines.Set (say n)
+  pub too_long : (text : List ℕ) → decimal_of text ≡ None → is_decimal text ≡ true → line_of (word ++ text) ≡ lines.Set (say 4294967295)
   pub only : (w : List ℕ) (n : ℕ) → line_of w ≡ lines.Set (say n)
       → (text : List ℕ) × (w ≡ word ++ text) × Says text n
 

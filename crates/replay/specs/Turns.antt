@@ -1,10 +1,9 @@
 -- A turn of the program: one call of the framing, and what the line that it completes does and prints. Assumes nothing.
 use Rattle.std.specs.Prelude.{List, [], ◌∷◌, ℕ, take}
 use Rattle.texts.specs.Fields.{line_end}
-use Rattle.framing.specs.declared.Answer.{Answer}
+use Rattle.framing.specs.Cutting.{Answer, link_limit, answer_of, store_after}
 use Rattle.framing.specs.declared.Item.{Item}
 use Rattle.framing.specs.declared.Item.TheVariants.{NotYet, Empty, Message, TooLong}
-use Rattle.framing.specs.Cutting.{link_limit, answer_of, store_after}
 use Rattle.framing.specs.Stream as framing
 use Rattle.replay.specs.declared.script.Line.TheVariants as lines
 use Rattle.replay.specs.declared.runs.Run.{Run}

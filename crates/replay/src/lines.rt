@@ -1,141 +1,119 @@
-// The lines that are printed, each written to the start of a lent array. What is written is as long as the answer says.
-ghost use Rattle.std.specs.Prelude.{◌≡◌, ◌++◌, ◌+◌, ◌≤◌, length, take};
-ghost use Rattle.texts.specs.Prefixes.{IsPrefixLen};
-ghost use Rattle.texts.specs.Fields.{space, field};
+// The lines that are printed.
+ghost use Rattle.std.specs.Prelude.{◌≡◌, ◌++◌, ◌+◌, ◌≤◌, length};
+ghost use Rattle.conduct.specs.Session.{state_number};
+ghost use Rattle.session.specs.Answers.{told_said};
 ghost use Rattle.session.specs.Rows.{list_of};
 ghost use Rattle.replay.specs.Lines.{event_line, event_lines, refused_line, answer_lines, bad_line, stop_line, end_line, state_name, last_line};
 
 use crate::runs::{Phase, Run};
-use conduct::Event;
-use session::{Events, Session, Told};
+use conduct::{Event, State};
+use session::{Accepted, Events, Refusal, Session};
+use texts::{LINE_END, SPACE};
 
-const SPACE: u8 = b' ';
+// The lines of the 40 events of a call have room.
+const MOST_LINE: usize = 4096;
 
-const LINE_END: u8 = b'\n';
+pub(crate) type Line = texts::Line<MOST_LINE>;
 
-// One event of the call with this number, behind what is written already.
-fn put_event(out: &mut [u8], at: usize, call: u64, e: Event) -> usize
-    requires { at + 84 ≤ length out.old }
-    ensures written { take result out.new ≡ take at out.old ++ event_line call e }
-    ensures ends { result ≤ at + 84 }
+// One event of the call with this number.
+fn put_event(line: &mut Line, call: u64, e: Event)
+    requires { length line.old + 84 ≤ 4096 }
+    ensures written { line.new ≡ line.old ++ event_line call e }
+    ensures ends { length line.new ≤ length line.old + 84 }
 {
-    let after_call = texts::put_number(out, at, call, SPACE);
-    let after_code = texts::put_number(out, after_call, e.code as u64, SPACE);
-    let after_number = texts::put_number(out, after_code, e.number as u64, SPACE);
-    texts::put_number(out, after_number, e.detail as u64, LINE_END)
+    line.put_number(call, SPACE);
+    line.put_number(u64::from(e.code), SPACE);
+    line.put_number(u64::from(e.number), SPACE);
+    line.put_number(u64::from(e.detail), LINE_END);
 }
 
 // A line for each event, in order.
-fn put_events(out: &mut [u8], call: u64, events: Events) -> usize
-    requires in_bounds { 4096 ≤ length out.old }
-    requires count_bound { events.count ≤ 40 }
-    ensures prefix_len { IsPrefixLen result out.new }
-    ensures written { take result out.new ≡ event_lines call (list_of events) }
+fn events(call: u64, events: Events) -> Line
+    requires { events.count ≤ 40 }
+    ensures { result ≡ event_lines call (list_of events) }
 {
-    let list = events.list;
-    let count = events.count;
-    let mut at = 0;
-    let mut i = 0;
-    while i < count {
-        at = put_event(out, at, call, list[i]);
-        i += 1;
+    let mut line = Line::new();
+    for event in &events.list[..events.count] {
+        put_event(&mut line, call, *event);
     }
-    at
+    line
 }
 
-fn refused(out: &mut [u8], call: u64, refusal: u32) -> usize
-    requires { 4096 ≤ length out.old }
-    ensures prefix_len { IsPrefixLen result out.new }
-    ensures written { take result out.new ≡ refused_line call refusal }
+fn refused(call: u64, refusal: u32) -> Line
+    ensures { result ≡ refused_line call refusal }
 {
-    let after_call = texts::put_number(out, 0, call, SPACE);
-    let after_word = texts::put(out, after_call, b"refused", SPACE);
-    texts::put_number(out, after_word, refusal as u64, LINE_END)
+    let mut line = Line::new();
+    line.put_number(call, SPACE);
+    line.put(b"refused", SPACE);
+    line.put_number(u64::from(refusal), LINE_END);
+    line
 }
 
-// What a call answers.
-pub(crate) fn answer(out: &mut [u8], call: u64, told: Told) -> usize
-    requires in_bounds { 4096 ≤ length out.old }
-    requires count_bound { told.events.count ≤ 40 }
-    ensures prefix_len { IsPrefixLen result out.new }
-    ensures written { take result out.new ≡ answer_lines call told }
+// What the next call of a run answers.
+pub(crate) fn answer(run: Run, told: Result<Accepted, Refusal>) -> Line
+    requires { (told_said run.session told).events.count ≤ 40 }
+    ensures { result ≡ answer_lines run.call (told_said run.session told) }
 {
-    let refusal = told.refusal;
-    if refusal != 0 {
-        return refused(out, call, refusal);
+    match told {
+        Ok(accepted) => events(run.call, accepted.events),
+        Err(refusal) => refused(run.call, u32::from(refusal)),
     }
-    let events = told.events;
-    put_events(out, call, events)
 }
 
 // A line of the script that stands for nothing.
-pub(crate) fn bad(out: &mut [u8], line: u64) -> usize
-    requires { 4096 ≤ length out.old }
-    ensures prefix_len { IsPrefixLen result out.new }
-    ensures written { take result out.new ≡ bad_line line }
+pub(crate) fn bad(number: u64) -> Line
+    ensures { result ≡ bad_line number }
 {
-    let after_word = texts::put(out, 0, b"line", SPACE);
-    let after_number = texts::put_number(out, after_word, line, SPACE);
-    texts::put(out, after_number, b"bad", LINE_END)
+    let mut line = Line::new();
+    line.put(b"line", SPACE);
+    line.put_number(number, SPACE);
+    line.put(b"bad", LINE_END);
+    line
 }
 
 // A refused making.
-fn stop(out: &mut [u8], refusal: u32) -> usize
-    requires { 4096 ≤ length out.old }
-    ensures prefix_len { IsPrefixLen result out.new }
-    ensures written { take result out.new ≡ stop_line refusal }
+fn stop(refusal: u32) -> Line
+    ensures { result ≡ stop_line refusal }
 {
-    let after_word = texts::put(out, 0, b"stop", SPACE);
-    texts::put_number(out, after_word, refusal as u64, LINE_END)
+    let mut line = Line::new();
+    line.put(b"stop", SPACE);
+    line.put_number(u64::from(refusal), LINE_END);
+    line
 }
 
-fn put_state(out: &mut [u8], at: usize, number: u32) -> usize
-    requires { at + 11 ≤ length out.old }
-    ensures written { take result out.new ≡ take at out.old ++ field (state_name number) space }
-    ensures ends { result ≤ at + 11 }
+fn name(state: State) -> &'static [u8]
+    ensures named { result.now ≡ state_name (state_number state) }
+    ensures within { length result.now ≤ 10 }
 {
-    if number == 1 {
-        return texts::put(out, at, b"waiting", SPACE);
+    match state {
+        State::Waiting(_) => b"waiting",
+        State::Connecting => b"connecting",
+        State::Opening(_) => b"opening",
+        State::Confirming(_, _) => b"confirming",
+        State::Up(_, _) => b"up",
+        State::Stopped => b"stopped",
     }
-    if number == 2 {
-        return texts::put(out, at, b"connecting", SPACE);
-    }
-    if number == 3 {
-        return texts::put(out, at, b"opening", SPACE);
-    }
-    if number == 4 {
-        return texts::put(out, at, b"confirming", SPACE);
-    }
-    if number == 5 {
-        return texts::put(out, at, b"up", SPACE);
-    }
-    texts::put(out, at, b"stopped", SPACE)
 }
 
 // The last line.
-fn end(out: &mut [u8], s: Session) -> usize
-    requires { 4096 ≤ length out.old }
-    ensures prefix_len { IsPrefixLen result out.new }
-    ensures written { take result out.new ≡ end_line s }
+fn end(session: Session) -> Line
+    ensures { result ≡ end_line session }
 {
-    let state = s.state;
-    let table = s.pushes;
-    let after_word = texts::put(out, 0, b"end", SPACE);
-    let after_state = put_state(out, after_word, state.number());
-    texts::put_number(out, after_state, table.count as u64, LINE_END)
+    let mut line = Line::new();
+    line.put(b"end", SPACE);
+    line.put(name(session.state), SPACE);
+    line.put_number(session.pushes.count as u64, LINE_END);
+    line
 }
 
 // What is printed when the script has ended.
-pub(crate) fn last(out: &mut [u8], run: Run) -> usize
-    requires { 4096 ≤ length out.old }
-    ensures prefix_len { IsPrefixLen result out.new }
-    ensures written { take result out.new ≡ last_line run }
+#[tactic(auto, unfolding(crate::specs::Lines::last_line))]
+pub(crate) fn last(run: Run) -> Line
+    ensures { result ≡ last_line run }
 {
-    let phase = run.phase;
-    let session = run.session;
-    match phase {
-        Phase::Settling => 0,
-        Phase::Running => end(out, session),
-        Phase::Refused(refusal) => stop(out, refusal),
+    match run.phase {
+        Phase::Settling => Line::new(),
+        Phase::Running => end(run.session),
+        Phase::Refused(refusal) => stop(refusal),
     }
 }

@@ -1,10 +1,9 @@
 // A line of a script, and what it stands for.
-ghost use Rattle.std.specs.Prelude.{◌≡◌, ◌≤◌, length, drop};
+ghost use Rattle.std.specs.Prelude.{◌≡◌};
 ghost use Rattle.conduct.specs.Lists.{all};
 ghost use Rattle.replay.specs.Script.{behind, is_word, ticks_of, is_digit, is_decimal, figure_of, figure_behind, numbered_of, worded_of, line_of};
 
 use conduct::{Call, Conduct, Pushed};
-use message::Number;
 
 // One of the things that a session is made with.
 #[derive(Clone, Copy)]
@@ -28,131 +27,96 @@ pub(crate) enum Line {
     Bad,
 }
 
+#[tactic(auto, using(crate::proofs::Words::equal_words))]
 fn is_word(line: &[u8], word: &[u8]) -> bool
     ensures { result ≡ is_word word.now line.now }
 {
-    if line.len() == word.len() {
-        return texts::begins(line, word);
-    }
-    false
+    line == word
 }
 
 // The number behind a word that ends with a space.
-fn behind(line: &[u8], word: &[u8]) -> Number
+fn behind(line: &[u8], word: &[u8]) -> Option<u32>
     ensures { result ≡ behind word.now line.now }
 {
-    if texts::begins(line, word) {
-        return texts::number(line, word.len());
+    if !texts::begins(line, word) {
+        return None;
     }
-    Number::Nothing
+    texts::number(line, word.len())
 }
 
 // So many ticks, if they are 1 to 1,000,000.
 fn ticks(count: u32) -> Line
     ensures { result ≡ ticks_of count }
 {
-    if count < 1 {
-        return Line::Bad;
+    if 1 <= count && count <= 1000000 {
+        Line::Ticks(count)
+    } else {
+        Line::Bad
     }
-    if 1000000 < count {
-        return Line::Bad;
-    }
-    Line::Ticks(count)
 }
 
-// Whether a line has, from a place on to its end, a number of any size, in decimal without leading zeros.
-fn is_decimal(line: &[u8], from: usize) -> bool
-    requires { from ≤ length line.now }
-    ensures { result ≡ is_decimal (drop from line.now) }
+// Whether a text is a number of any size, in decimal without leading zeros.
+fn is_decimal(text: &[u8]) -> bool
+    ensures { result ≡ is_decimal text.now }
 {
-    if line.len() <= from {
+    let Some(first) = text.first() else {
         return false;
-    }
-    if line[from] == b'0' {
-        return line.len() - from == 1;
-    }
-    all_digits(line, from)
+    };
+    (*first != b'0' || text.len() == 1) && all_digits(text)
 }
 
-#[tactic(auto, using(crate::proofs::Digits::above_digits))]
-fn all_digits(line: &[u8], from: usize) -> bool
-    requires { from ≤ length line.now }
-    ensures { result ≡ all is_digit (drop from line.now) }
+fn all_digits(text: &[u8]) -> bool
+    ensures { result ≡ all is_digit text.now }
 {
-    let mut i = from;
-    while i < line.len() {
-        if line[i] < b'0' {
-            return false;
-        }
-        if b'9' < line[i] {
-            return false;
-        }
-        i += 1;
-    }
-    true
+    text.iter().all(|byte| byte.is_ascii_digit())
 }
 
-// The figure of a setting, from a place on to the line's end. A number that is too long for 32 bits is one too: the making refuses it.
-fn figure(line: &[u8], from: usize) -> Number
-    requires { from ≤ length line.now }
-    ensures { result ≡ figure_of (drop from line.now) }
+// The figure of a setting. A number that is too long for 32 bits is one too: the making refuses it.
+fn figure(text: &[u8]) -> Option<u32>
+    ensures { result ≡ figure_of text.now }
 {
-    let number = texts::number(line, from);
-    if number.flag() == 1 {
-        return number;
-    }
-    if !is_decimal(line, from) {
-        return Number::Nothing;
-    }
-    Number::Names(u32::MAX)
+    texts::number(text, 0).or_else(|| is_decimal(text).then_some(u32::MAX))
 }
 
 // The figure behind a word that ends with a space.
-fn figure_behind(line: &[u8], word: &[u8]) -> Number
+#[tactic(auto, using(crate::proofs::Words::begins_long))]
+fn figure_behind(line: &[u8], word: &[u8]) -> Option<u32>
     ensures { result ≡ figure_behind word.now line.now }
 {
-    if !texts::begins(line, word) {
-        return Number::Nothing;
+    if texts::begins(line, word) {
+        return figure(&line[word.len()..]);
     }
-    figure(line, word.len())
+    None
 }
 
 // A line that has a word and a number.
+#[tactic(auto, unfolding(crate::specs::Script::numbered_of))]
 fn numbered(line: &[u8]) -> Line
     ensures { result ≡ numbered_of line.now }
 {
-    let interval = figure_behind(line, b"interval ");
-    if interval.flag() == 1 {
-        return Line::Set(Setting::Interval(interval.named()));
+    if let Some(interval) = figure_behind(line, b"interval ") {
+        return Line::Set(Setting::Interval(interval));
     }
-    let resends = figure_behind(line, b"resends ");
-    if resends.flag() == 1 {
-        return Line::Set(Setting::Resends(resends.named()));
+    if let Some(resends) = figure_behind(line, b"resends ") {
+        return Line::Set(Setting::Resends(resends));
     }
-    let count = behind(line, b"tick ");
-    if count.flag() == 1 {
-        return ticks(count.named());
+    if let Some(count) = behind(line, b"tick ") {
+        return ticks(count);
     }
-    let push = behind(line, b"push ");
-    if push.flag() == 1 {
-        return Line::Other(Call::Push(Pushed::Response, push.named()));
+    if let Some(push) = behind(line, b"push ") {
+        return Line::Other(Call::Push(Pushed::Response, push));
     }
-    let advise = behind(line, b"advise ");
-    if advise.flag() == 1 {
-        return Line::Other(Call::Push(Pushed::Advisory, advise.named()));
+    if let Some(advise) = behind(line, b"advise ") {
+        return Line::Other(Call::Push(Pushed::Advisory, advise));
     }
-    let unreadable = behind(line, b"unreadable ");
-    if unreadable.flag() == 1 {
-        return Line::Other(Call::Unreadable(unreadable.named()));
+    if let Some(refusal) = behind(line, b"unreadable ") {
+        return Line::Other(Call::Unreadable(refusal));
     }
-    let last = behind(line, b"last ");
-    if last.flag() == 1 {
-        return Line::Last(last.named());
-    }
-    Line::Bad
+    behind(line, b"last ").map_or(Line::Bad, Line::Last)
 }
 
 // A setting that is words alone, or a word with a number.
+#[tactic(auto, unfolding(crate::specs::Script::worded_of))]
 fn worded(line: &[u8]) -> Line
     ensures { result ≡ worded_of line.now }
 {
@@ -165,10 +129,11 @@ fn worded(line: &[u8]) -> Line
     numbered(line)
 }
 
+#[tactic(auto, unfolding(crate::specs::Script::line_of))]
 pub(crate) fn line_of(line: &[u8]) -> Line
     ensures { result ≡ line_of line.now }
 {
-    if line.len() == 0 {
+    if line.is_empty() {
         return Line::Nothing;
     }
     if is_word(line, b"tick") {

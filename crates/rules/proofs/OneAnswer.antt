@@ -1,19 +1,16 @@
 -- THEOREMS: the contract of each public function of this crate has one answer. Assumes nothing.
+use Rattle.std.specs.Prelude.{Option}
 use Rattle.std.proofs.Common.{◌≡◌, ℕ, Bool, ◌||◌, ◌==◌, List}
 use Rattle.laws.proofs.OneAnswer.{one_answer}
 use Rattle.message.specs.declared.Advice.{Advice}
-use Rattle.message.specs.declared.Number.{Number}
-use Rattle.message.specs.declared.NumberValue.{NumberValue}
+use Rattle.message.specs.declared.Value.{Value}
 use Rattle.message.specs.declared.Status.{Status}
-use Rattle.message.specs.declared.StatusValue.{StatusValue}
-use Rattle.message.specs.declared.TypeValue.{TypeValue}
 use Rattle.conduct.specs.Lists.{among, distinct}
 use Rattle.conduct.specs.Numbers.{next_free, takes_number}
 use Rattle.conduct.specs.Pushes.{terms_of, is_response, fate_of}
 use Rattle.conduct.specs.Session.{is_stopped, is_up, fits, is_push, allowed_interval, allowed_resends, awaited_numbers}
 use Rattle.conduct.specs.Sound.{sound_state, sound_push}
 use Rattle.conduct.specs.Rules as Rules
-use Rattle.conduct.specs.declared.Awaited.{Awaited}
 use Rattle.conduct.specs.declared.Call.{Call}
 use Rattle.conduct.specs.declared.Fate.{Fate}
 use Rattle.conduct.specs.declared.Move.{Move}
@@ -53,19 +50,19 @@ module _ {r r' : Move} where
 
 -- ---- what a message says
 
-pub named_by_once : (value : NumberValue) {r r' : Number} → r ≡ Rules.named_by value → r' ≡ Rules.named_by value → r ≡ r'
+pub named_by_once : (value : Value (Option ℕ)) {r r' : Option ℕ} → r ≡ Rules.named_by value → r' ≡ Rules.named_by value → r ≡ r'
 named_by_once value = one_answer
 
-pub status_by_once : (value : StatusValue) {r r' : Status} → r ≡ Rules.status_by value → r' ≡ Rules.status_by value → r ≡ r'
+pub status_by_once : (value : Value Status) {r r' : Status} → r ≡ Rules.status_by value → r' ≡ Rules.status_by value → r ≡ r'
 status_by_once value = one_answer
 
 pub counted_in_once : (conduct : Conduct) (status : Status) {r r' : Status} → r ≡ Rules.counted_in conduct status → r' ≡ Rules.counted_in conduct status → r ≡ r'
 counted_in_once conduct status = one_answer
 
-pub advice_by_once : (value : TypeValue) {r r' : Advice} → r ≡ Rules.advice_by value → r' ≡ Rules.advice_by value → r ≡ r'
+pub advice_by_once : (value : Value Advice) {r r' : Advice} → r ≡ Rules.advice_by value → r' ≡ Rules.advice_by value → r ≡ r'
 advice_by_once value = one_answer
 
-pub is_awaited_once : (awaited : Awaited) (number : ℕ) {r r' : Bool}
+pub is_awaited_once : (awaited : Option ℕ) (number : ℕ) {r r' : Bool}
     → r ≡ among number (awaited_numbers awaited) → r' ≡ among number (awaited_numbers awaited) → r ≡ r'
 is_awaited_once awaited number = one_answer
 

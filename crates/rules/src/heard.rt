@@ -1,46 +1,44 @@
 // What a message says to the session. A value that is not there names nothing and means other, whatever stands beside it.
-ghost use Rattle.std.specs.Prelude.{◌≡◌};
+ghost use Rattle.std.specs.Prelude.{◌≡◌, cond};
 ghost use Rattle.conduct.specs.Lists.{among};
 ghost use Rattle.conduct.specs.Session.{awaited_numbers};
 ghost use Rattle.conduct.specs.Rules as Rules;
 
-use conduct::{Awaited, Sweep};
-use message::{Advice, Number, NumberValue, Status, StatusValue, TypeValue};
+use conduct::Sweep;
+use message::{Advice, Status, Value};
 
-pub fn named_by(value: NumberValue) -> Number
+fn meant_or<M: Copy>(value: Value<M>, otherwise: M) -> M
+    ensures { result ≡ cond value.there value.meaning otherwise }
+{
+    if value.there {
+        value.meaning
+    } else {
+        otherwise
+    }
+}
+
+pub fn named_by(value: Value<Option<u32>>) -> Option<u32>
     ensures { result ≡ Rules.named_by value }
 {
-    if value.there {
-        return value.number;
-    }
-    Number::Nothing
+    meant_or(value, None)
 }
 
-pub fn status_by(value: StatusValue) -> Status
+pub fn status_by(value: Value<Status>) -> Status
     ensures { result ≡ Rules.status_by value }
 {
-    if value.there {
-        return value.status;
-    }
-    Status::Other
+    meant_or(value, Status::Other)
 }
 
-pub fn advice_by(value: TypeValue) -> Advice
+pub fn advice_by(value: Value<Advice>) -> Advice
     ensures { result ≡ Rules.advice_by value }
 {
-    if value.there {
-        return value.advice;
-    }
-    Advice::Other
+    meant_or(value, Advice::Other)
 }
 
-pub fn is_awaited(awaited: Awaited, number: u32) -> bool
+pub fn is_awaited(awaited: Option<u32>, number: u32) -> bool
     ensures { result ≡ among number (awaited_numbers awaited) }
 {
-    match awaited {
-        Awaited::Nothing => false,
-        Awaited::Ok(n) => number == n,
-    }
+    awaited == Some(number)
 }
 
 pub fn advises(advice: Advice, n: u32) -> Sweep

@@ -5,45 +5,37 @@ ghost use Rattle.conduct.specs.Numbers.{next_free, takes_number};
 
 use conduct::codes;
 
+// The library's test under the definition's name, which callers' proofs cite.
 pub fn is_among(numbers: &[u32], number: u32) -> bool
     ensures { result ≡ among number numbers.now }
 {
-    let mut i = 0;
-    while i < numbers.len() {
-        if numbers[i] == number {
-            return true;
-        }
-        i += 1;
-    }
-    false
+    numbers.contains(&number)
 }
 
 pub fn all_differ(numbers: &[u32]) -> bool
     ensures { result ≡ distinct numbers.now }
 {
-    let mut i = 0;
-    while i < numbers.len() {
-        if is_among(&numbers[i + 1..], numbers[i]) {
+    let mut left = numbers;
+    while let Some((number, rest)) = left.split_first() {
+        if is_among(rest, *number) {
             return false;
         }
-        i += 1;
+        left = rest;
     }
     true
 }
 
 // The next number after the last one taken that is not held.
-#[tactic(auto, unfolding(conduct::specs::Numbers::next_free))]
+#[tactic(auto, using(crate::proofs::Free::passed_over), unfolding(conduct::specs::Numbers::next_free))]
 pub fn next_free(numbers: &[u32], last: u32) -> u32
     ensures { result ≡ next_free numbers.now last }
 {
-    let mut left = numbers.len();
-    let mut number = std::num::wrapping_add_u32(last, 1);
-    while 0 < left {
+    let mut number = last.wrapping_add(1);
+    for _held in numbers {
         if !is_among(numbers, number) {
             return number;
         }
-        number = std::num::wrapping_add_u32(number, 1);
-        left -= 1;
+        number = number.wrapping_add(1);
     }
     number
 }
@@ -52,20 +44,13 @@ pub fn next_free(numbers: &[u32], last: u32) -> u32
 pub fn takes_number(code: u32) -> bool
     ensures { result ≡ takes_number code }
 {
-    if code == codes::SEND_SESSION_OPEN_REQUEST {
-        return true;
-    }
-    if code == codes::SEND_SESSION_OK {
-        return true;
-    }
-    if code == codes::SEND_RESPONSE {
-        return true;
-    }
-    if code == codes::SEND_ADVISORY {
-        return true;
-    }
-    if code == codes::SEND_ALERT {
-        return true;
-    }
-    code == codes::SEND_GOING_OUT_OF_SERVICE
+    matches!(
+        code,
+        codes::SEND_SESSION_OPEN_REQUEST
+            | codes::SEND_SESSION_OK
+            | codes::SEND_RESPONSE
+            | codes::SEND_ADVISORY
+            | codes::SEND_ALERT
+            | codes::SEND_GOING_OUT_OF_SERVICE
+    )
 }

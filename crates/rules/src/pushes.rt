@@ -1,6 +1,6 @@
 // One open push.
 ghost use Rattle.std.specs.Prelude.{◌≡◌, ◌+◌, ◌≤◌};
-ghost use Rattle.conduct.specs.Pushes.{terms_of, event_of, older, sent_again, is_response, may_go_again, again_or, fate_of};
+ghost use Rattle.conduct.specs.Pushes.{terms_of, event_of, sent_again, is_response, may_go_again, again_or, fate_of};
 ghost use Rattle.conduct.specs.Sound.{most_sendings, sound_push};
 ghost use Rattle.conduct.specs.declared.Sweep.TheVariants as sweeps;
 
@@ -27,55 +27,28 @@ fn event_of(code: u32, p: Push) -> Event
     }
 }
 
-fn older(p: Push, age: u32) -> Push
-    requires { age ≡ p.age + 1 }
-    ensures { result ≡ older p }
-{
-    let what = p.what;
-    Push {
-        what,
-        number: p.number,
-        handle: p.handle,
-        sent: p.sent,
-        age,
-    }
-}
-
 fn sent_again(p: Push) -> Push
     requires { p.sent ≤ 3 }
     ensures { result ≡ sent_again p }
 {
-    let what = p.what;
     Push {
-        what,
-        number: p.number,
-        handle: p.handle,
         sent: p.sent + 1,
         age: 0,
+        ..p
     }
 }
 
 pub fn is_response(what: Pushed) -> bool
     ensures { result ≡ is_response what }
 {
-    match what {
-        Pushed::Response => true,
-        Pushed::Advisory => false,
-    }
+    matches!(what, Pushed::Response)
 }
 
 // Never beyond the most resends that a site may have, whatever the terms say, so that no count of sendings overflows.
 fn may_go_again(terms: Terms, p: Push) -> bool
     ensures { result ≡ may_go_again terms p }
 {
-    let what = p.what;
-    if !is_response(what) {
-        return false;
-    }
-    if p.sent > terms.resends {
-        return false;
-    }
-    p.sent <= MOST_RESENDS
+    is_response(p.what) && p.sent <= terms.resends && p.sent <= MOST_RESENDS
 }
 
 // Sent again if that may be, and else closed with the code.
@@ -92,11 +65,11 @@ fn again_or(terms: Terms, code: u32, p: Push) -> Fate
 fn ticked(terms: Terms, p: Push) -> Fate
     ensures { result ≡ fate_of terms sweeps.Older p }
 {
-    if p.age < terms.ticks {
-        let age = p.age + 1;
-        if age < terms.ticks {
-            return Fate::Keep(older(p, age));
-        }
+    if p.age < terms.ticks && p.age + 1 < terms.ticks {
+        return Fate::Keep(Push {
+            age: p.age + 1,
+            ..p
+        });
     }
     again_or(terms, codes::CLOSED_TIMED_OUT, p)
 }
@@ -106,29 +79,19 @@ pub fn fate_of(terms: Terms, sweep: Sweep, p: Push) -> Fate
     ensures { result ≡ fate_of terms sweep p }
 {
     match sweep {
-        Sweep::Still => Fate::Keep(p),
         Sweep::Older => ticked(terms, p),
         Sweep::Lost => Fate::Close(event_of(codes::CLOSED_LOST, p)),
-        Sweep::Acknowledged(number) => {
-            if p.number == number {
-                Fate::Close(event_of(codes::CLOSED_ACKNOWLEDGED, p))
-            } else {
-                Fate::Keep(p)
-            }
+        Sweep::Acknowledged(number) if p.number == number => {
+            Fate::Close(event_of(codes::CLOSED_ACKNOWLEDGED, p))
         }
-        Sweep::UnreadableMessage(number) => {
-            if p.number == number {
-                again_or(terms, codes::CLOSED_ADVISED, p)
-            } else {
-                Fate::Keep(p)
-            }
+        Sweep::UnreadableMessage(number) if p.number == number => {
+            again_or(terms, codes::CLOSED_ADVISED, p)
         }
-        Sweep::Advised(number) => {
-            if p.number == number {
-                Fate::Close(event_of(codes::CLOSED_ADVISED, p))
-            } else {
-                Fate::Keep(p)
-            }
+        Sweep::Advised(number) if p.number == number => {
+            Fate::Close(event_of(codes::CLOSED_ADVISED, p))
+        }
+        Sweep::Still | Sweep::Acknowledged(_) | Sweep::UnreadableMessage(_) | Sweep::Advised(_) => {
+            Fate::Keep(p)
         }
     }
 }
@@ -146,12 +109,5 @@ fn most_again(terms: Terms, what: Pushed) -> u32
 pub fn is_sound(terms: Terms, p: Push) -> bool
     ensures { result ≡ sound_push terms p }
 {
-    if p.sent < 1 {
-        return false;
-    }
-    let what = p.what;
-    if most_again(terms, what) < p.sent - 1 {
-        return false;
-    }
-    p.age < terms.ticks
+    1 <= p.sent && p.sent - 1 <= most_again(terms, p.what) && p.age < terms.ticks
 }

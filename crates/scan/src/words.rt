@@ -1,34 +1,25 @@
 // The bytes of a word.
 ghost use Rattle.std.specs.Prelude.{◌≡◌};
-ghost use Rattle.message.specs.Reading.{is_whole, word_at};
-ghost use Rattle.scan.specs.Answers.{place_said};
+ghost use Rattle.message.specs.Reading.{is_whole, said, word_at};
 
-use crate::{Place, bytes};
+use crate::bytes;
+use message::Refusal;
 
 // Reads the bytes of a word, one by one.
-pub fn word(s: &[u8], at: usize, w: &[u8]) -> Place
-    ensures { place_said result ≡ word_at w.now s.now at }
+#[tactic(auto, using(message::proofs::Laws::word_more, message::proofs::Laws::word_none))]
+pub fn word(s: &[u8], at: usize, w: &[u8]) -> Result<usize, Refusal>
+    ensures { said result ≡ word_at w.now s.now at }
 {
-    let mut k = 0;
-    let mut i = at;
-    while k < w.len() {
-        let r = bytes::byte(s, i, w[k]);
-        let Place::Whole(next) = r else {
-            return r;
-        };
-        i = next;
-        k += 1;
+    let mut end = at;
+    for &b in w {
+        end = bytes::byte(s, end, b)?;
     }
-    Place::Whole(i)
+    Ok(end)
 }
 
 // The whole word stands at the place.
 pub fn spells(s: &[u8], at: usize, w: &[u8]) -> bool
     ensures { result ≡ is_whole (word_at w.now s.now at) }
 {
-    let r = word(s, at, w);
-    match r {
-        Place::Whole(_) => true,
-        Place::Refused(_, _) => false,
-    }
+    word(s, at, w).is_ok()
 }

@@ -3,8 +3,8 @@ use mathlib.Core.Path.{sym, ◌∙◌}
 use mathlib.Core.List.{map}
 use lib.Dec.{leb}
 use borrow.Author.Tests.{leb-true}
+use Rattle.std.proofs.lemmas.Bool.{and_parts}
 use Rattle.conduct.specs.Lists.{those}
-use Rattle.conduct.proofs.Lists.{both_of}
 use Rattle.conduct.proofs.Trace.{every_push_is_followed}
 use Rattle.conduct.proofs.Tested.{passing_is_tested}
 use Rattle.session.specs.Record.{session_of}
@@ -19,4 +19,4 @@ accepted_are_followed d asked before rest x what h passes is pushed accepted =
 
 pub passing_record_is_tested : PassingRecordIsTested
 passing_record_is_tested d passes =
-    (leb-true d.pushes.count 32 (both_of (leb d.pushes.count 32) _ passes).0, passing_is_tested (session_of d) (sound_session d passes))
+    (leb-true d.pushes.count 32 (and_parts (leb d.pushes.count 32) _ passes).0, passing_is_tested (session_of d) (sound_session d passes))

@@ -1,11 +1,12 @@
 -- What bears on a push, by the bytes of a message: specs/Heard. Assumes nothing.
+use Rattle.std.specs.Prelude.{Option, None, Some}
 use mathlib.Core.Path.{◌≡◌, refl, sym, ap}
 use mathlib.Core.Bool.{Bool, true, false, cond}
 use mathlib.Core.List.{List, [], ◌∷◌}
 use Prim.Native.Nat.{ℕ}
 use native.Mathlib.Omega.{arith}
 use borrow.Author.Tests.{eq-eqb, eqb-true}
-use Rattle.message.proofs.Laws.{both_first, both_second}
+use Rattle.std.proofs.lemmas.Bool.{and_parts}
 use Rattle.message.specs.Class.{class_of}
 use Rattle.message.specs.Limits.{link_limits}
 use Rattle.message.specs.Reading.{Reading}
@@ -13,9 +14,7 @@ use Rattle.message.specs.Reading.Reading.{whole, refused}
 use Rattle.message.specs.Messages.{message_of}
 use Rattle.message.specs.declared.Kind.{Kind}
 use Rattle.message.specs.declared.Kind.TheVariants as kinds
-use Rattle.message.specs.declared.Number.{Number}
-use Rattle.message.specs.declared.Number.TheVariants as numbers
-use Rattle.message.specs.declared.NumberValue.{NumberValue}
+use Rattle.message.specs.declared.Value.{Value}
 use Rattle.message.specs.declared.Message.{Message}
 use Rattle.conduct.specs.History.{names_number, names, Bearing, advice_bearing, says_unreadable, message_bearing, call_bearing}
 use Rattle.conduct.specs.History.Bearing.{acknowledged, unreadable_message, advised}
@@ -29,11 +28,11 @@ handed_in_as_read bytes = (λ m e. ap call_of e, λ number place e. ap call_of e
 
 -- ---- what a value names
 
-number_names : (n : ℕ) (x : Number) → names_number n x ≡ true → x ≡ numbers.Names n
-number_names n numbers.Nothing h = cc
-number_names n (numbers.Names m) h = ap numbers.Names (eqb-true m n h)
+number_names : (n : ℕ) (x : Option ℕ) → names_number n x ≡ true → x ≡ Some n
+number_names n None h = cc
+number_names n (Some m) h = ap Some (eqb-true m n h)
 
-names_number_lem : (n : ℕ) (value : NumberValue) → value.there ≡ true → value.number ≡ numbers.Names n → names n value ≡ true
+names_number_lem : (n : ℕ) (value : Value (Option ℕ)) → value.there ≡ true → value.meaning ≡ Some n → names n value ≡ true
 names_number_lem n value there is = rw (there, is, eq-eqb n n refl)
 
 -- ---- what cannot be
@@ -57,15 +56,15 @@ module _ (bytes : List ℕ) (n : ℕ) where
     an_ok : OkNaming bytes n → b ≡ acknowledged → Bears b
     an_advisory : (a : AdvisoryNaming bytes n) → b ≡ advisory_bearing a.message → Bears b
 
-  naming : (kind : Kind) (value : Message → NumberValue) (m : Message) → message_of class_of link_limits bytes ≡ whole m → m.kind ≡ kind
+  naming : (kind : Kind) (value : Message → Value (Option ℕ)) (m : Message) → message_of class_of link_limits bytes ≡ whole m → m.kind ≡ kind
       → names n (value m) ≡ true → Naming bytes kind value n
   naming kind value m read is named =
       record {
         message = m;
         is_read = read;
         is_kind = is;
-        is_there = both_first (value m).there (names_number n (value m).number) named;
-        names_it = number_names n (value m).number (both_second (value m).there (names_number n (value m).number) named);
+        is_there = (and_parts (value m).there (names_number n (value m).meaning) named).0;
+        names_it = number_names n (value m).meaning (and_parts (value m).there (names_number n (value m).meaning) named).1;
       }
 
   kind_bears : (b : Bearing) (m : Message) → message_of class_of link_limits bytes ≡ whole m → (k : Kind) → m.kind ≡ k

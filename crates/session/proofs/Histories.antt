@@ -9,6 +9,7 @@ use lib.Dec.{leb, ltb, eqb}
 use lib.ListN.{length, drop, replicate}
 use lib.Seq.{drop-append_seam}
 use borrow.Author.Tests.{le-ltb, lt-ltb, ltb-false, le-leb, leb-true, leb-false}
+use Rattle.std.proofs.lemmas.Bool.{and_from}
 use Rattle.conduct.specs.declared.Call.{Call}
 use Rattle.conduct.specs.declared.Event.{Event}
 use Rattle.conduct.specs.Lists.{those, all}
@@ -16,18 +17,16 @@ use Rattle.conduct.specs.Session.{Session, is_stopped, fits, room_for, make}
 use Rattle.conduct.specs.Sound.{sound}
 use Rattle.conduct.specs.Step.{step}
 use Rattle.conduct.specs.History.{Entry, entry, history}
-use Rattle.conduct.proofs.Lists.{both}
 use Rattle.conduct.proofs.Good.{good}
 use Rattle.conduct.proofs.Refused.{refused_changes_nothing, refused_by}
 use Rattle.conduct.proofs.Few.{few_events}
 use Rattle.conduct.proofs.Reached.{sound_step, made_is_sound}
 use Rattle.session.specs.Rows.{no_push, table_of, is_blank, events_of, list_of}
 use Rattle.session.specs.Record.{session_of, record_of, consistent}
-use Rattle.session.specs.Answers.{told_of, refuse, told, written}
+use Rattle.session.specs.Answers.{Told, told_of, refuse, told, written}
 use Rattle.session.specs.Code.{Asked, answer_to, seen, answers, roomy, heeded, AnswersAreHistory, MadeIsConsistent, ReachedIsConsistent}
 use Rattle.session.specs.Code.{ShortListRefused, InconsistentRefused, RefusedReturnsTheOld, ListFits, LentListWritten, LentSaysTheSame, LastAlone}
 use Rattle.session.specs.declared.Session.{Session as Record}
-use Rattle.session.specs.declared.Told.{Told}
 use Rattle.session.proofs.Rows.{list_of_lem, events_count}
 use Rattle.session.proofs.Records.{sound_session, same_record, same_session}
 
@@ -43,7 +42,7 @@ record_consistent s h =
     let behind : all is_blank (drop (length s.pushes) (table_of s.pushes).rows) ≡ true =
     ap (all is_blank) (drop-append_seam s.pushes (replicate (32 - length s.pushes) no_push)) ∙ all_blank (32 - length s.pushes)
     in
-    both (le-leb (length s.pushes) 32 (good {s = s} h).room) (both behind (ap sound (same_session s) ∙ h))
+    and_from _ _ (le-leb (length s.pushes) 32 (good {s = s} h).room) (and_from _ _ behind (ap sound (same_session s) ∙ h))
 
 pub made_is_consistent : MadeIsConsistent
 made_is_consistent site = record_consistent (make site).session (made_is_sound site)

@@ -1,13 +1,11 @@
--- The laws about the record of a session: `Rows` has those of its tables, `NumberLaws` that of the numbers that are held.
--- What an accepted call writes: `Noting` its notes one by one, `Sweeping` what becomes of the pushes, `Remarks` what it says at its end, `Performing` all of it.
--- `Records` has those of the record. `Histories`, `Making`, `Following`, `Heard`, `Conducts`, `Swapped` and `Twice` show promises.
--- For events that go to a lent list, `Given` says what is written, `Fits` that all have room, and `Passing` what is answered.
+-- The laws about the record of a session: `Rows` has those of its tables and of a store in them, `NumberLaws` that of the numbers that are held, `Partings` and
+-- `Sweeping` those of the room for what a call writes, `Records` those of the record.
+-- `Histories`, `Making`, `Following`, `Heard`, `Conducts`, `Swapped`, `Twice` and `Results` show promises. `Passing` has the laws of events that go to a lent list,
+-- `OneAnswer` the theorems that no contract has a second answer.
 pub mod Rows
 pub mod NumberLaws
-pub mod Noting
+pub mod Partings
 pub mod Sweeping
-pub mod Remarks
-pub mod Performing
 pub mod Records
 pub mod Histories
 pub mod Making
@@ -16,7 +14,6 @@ pub mod Heard
 pub mod Conducts
 pub mod Swapped
 pub mod Twice
-pub mod OneAnswer
-pub mod Given
-pub mod Fits
+pub mod Results
 pub mod Passing
+pub mod OneAnswer

@@ -5,9 +5,9 @@ use Prim.Native.Nat.{ℕ, ◌+◌, ◌<◌}
 use native.Mathlib.Numerals.{add-one}
 use lib.ListN.{length, take, get_or, set}
 use lib.Seq.{take-suc, take-suc-set}
+use Rattle.std.proofs.lemmas.List.{map-append}
 use Rattle.conduct.specs.declared.Push.{Push}
 use Rattle.conduct.specs.Session.{push_numbers}
-use Rattle.conduct.proofs.Lists.{map_append}
 
 -- one push more: its number is stored behind the others
 pub held_next : (front ns : List ℕ) (at : ℕ) (rows : List Push) (i : ℕ) (d : Push) → at < length ns → i < length rows
@@ -16,4 +16,4 @@ pub held_next : (front ns : List ℕ) (at : ℕ) (rows : List Push) (i : ℕ) (d
 held_next front ns at rows i d room more so_far =
     let p = get_or rows i d in
     rw (add-one at, add-one i, take-suc-set ns at p.number, so_far, take-suc rows i d, append_assoc)
-    (ap (λ (l : List ℕ). front ++ l) (sym (map_append (λ (q : Push). q.number) (take i rows) (p ∷ []))))
+    (ap (λ (l : List ℕ). front ++ l) (sym (map-append (λ (q : Push). q.number) (take i rows) (p ∷ []))))

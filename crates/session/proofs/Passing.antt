@@ -1,29 +1,26 @@
--- What a call with a lent list answers and leaves there, where `give` was passed the events of t, the call's own answer. The code has t as r.
---     concluded    the answer is made of r and of how many `give` wrote
---     handed_on    so it and the list are what the contract says
+-- A call whose events go to a lent list, where the same call by value is answered: the events of an accepted one have room, and a refused one leaves the list.
 -- Assumes nothing.
-use mathlib.Core.Path.{◌≡◌, ap, ◌∙◌}
-use mathlib.Core.List.{List}
-use Prim.Native.Nat.{ℕ}
+use Rattle.std.specs.Prelude.{Result, Ok, Err}
+use mathlib.Core.Path.{◌≡◌, refl, sym, ap}
+use mathlib.Core.List.{List, []}
+use native.Mathlib.Omega.{arith}
 use lib.ListN.{length}
+use Rattle.conduct.specs.declared.Call.{Call}
 use Rattle.conduct.specs.declared.Event.{Event}
-use Rattle.session.specs.declared.Said.{Said}
-use Rattle.session.specs.declared.Told.{Told}
-use Rattle.session.specs.Answers.{said_of, SaysAndWrites}
-use Rattle.session.specs.Lent.{fit_of, given}
-use Rattle.session.proofs.Fits.{Fits, count_all, all_given}
+use Rattle.session.specs.Answers.{Told, told, SaysAndWrites, refusal_number, told_said, said_in_list, HasRoom}
+use Rattle.session.specs.declared.Accepted.{Accepted}
+use Rattle.session.specs.declared.Refusal.{Refusal}
+use Rattle.session.specs.declared.Session.{Session as Record}
+use Rattle.session.proofs.Rows.{list_of_lem, events_count}
+use Rattle.session.proofs.Histories.{list_fits}
 
-pub concluded : (places : ℕ) (t r : Told) (n : ℕ) → Fits places t → r ≡ t → n ≡ fit_of r.events.count places
-    → ◌≡◌ {A = Said} (record { refusal = r.refusal; next = r.next; count = n }) (said_of t)
-concluded places t r n fits is wrote =
-    let count : n ≡ t.events.count = wrote ∙ ap (λ (u : Told). fit_of u.events.count places) is ∙ count_all places t fits in
-    λ i. record { refusal = (is i).refusal; next = (is i).next; count = count i }
+pub has_room : (list : List Event) (d : Record) (c : Call) (answer : Result Accepted Refusal) → told_said d answer ≡ told (length list) d c → HasRoom list answer
+has_room list d c (Ok a) is =
+    let count = ap (λ (t : Told). t.events.count) is in
+    let fits = list_fits (length list) d c in
+    (omega (arith, fits.0, count), omega (arith, fits.1, count))
+has_room list d c (Err why) is = tt
 
-pub handed_on : (t r : Told) (list left : List Event) (n : ℕ) → Fits (length list) t → r ≡ t
-    → (n ≡ fit_of r.events.count (length list)) × (left ≡ given list r.events.list n)
-    → SaysAndWrites t list (record { refusal = r.refusal; next = r.next; count = n }) left
-handed_on t r list left n fits is gave =
-    let fit : n ≡ fit_of t.events.count (length list) = gave.0 ∙ ap (λ (u : Told). fit_of u.events.count (length list)) is in (
-      concluded (length list) t r n fits is gave.0,
-      gave.1 ∙ ap (λ (u : Told). given list u.events.list n) is ∙ ap (given list t.events.list) fit ∙ all_given list t fits,
-    )
+pub refused_in_list : (d : Record) (why : Refusal) (list : List Event) → SaysAndWrites (told_said d (Err why)) list (said_in_list d (Err why)) list
+refused_in_list d why list =
+    ((λ i. record { refusal = refusal_number why; next = d; count = sym (events_count _ [] refl) i }), rw (list_of_lem [], events_count _ [] refl) refl)

@@ -7,12 +7,11 @@ use native.Mathlib.Omega.{arith}
 use lib.Dec.{leb, eqb}
 use lib.ListN.{length, take, drop, replicate, take-append-drop, length-drop}
 use borrow.Author.Tests.{leb-true, eqb-true}
-use Rattle.laws.proofs.Tests.{true_false}
+use Rattle.std.proofs.lemmas.Bool.{and_parts, both_ways}
 use Rattle.conduct.specs.declared.Push.{Push}
 use Rattle.conduct.specs.declared.Pushed.{Pushed}
 use Rattle.conduct.specs.declared.Pushed.TheVariants.{Response, Advisory}
 use Rattle.conduct.specs.declared.Call.{Call}
-use Rattle.conduct.specs.declared.Move.{Move}
 use Rattle.conduct.specs.declared.Remark.{Remark}
 use Rattle.conduct.specs.declared.Remark.TheVariants as remarks
 use Rattle.conduct.specs.Lists.{all}
@@ -20,46 +19,42 @@ use Rattle.conduct.specs.Pushes.{is_response}
 use Rattle.conduct.specs.Session.{Session, refusal_of}
 use Rattle.conduct.specs.Sound.{sound}
 use Rattle.conduct.specs.Rules.{move_of}
-use Rattle.conduct.specs.Step.{opens, moved_by, events_by, answer, step}
-use Rattle.conduct.proofs.Lists.{both_of}
+use Rattle.conduct.specs.Step.{opens, answer, step}
 use Rattle.conduct.proofs.Good.{good}
 use Rattle.conduct.proofs.Fair.{Taking, sent_number, new_pushes, fair}
 use Rattle.conduct.proofs.Fair.Taking.{holds, frees, sends, opens_one}
 use Rattle.session.specs.Rows.{no_push, table_of, rows_of, is_blank}
 use Rattle.session.specs.Record.{session_of, record_of, consistent}
-use Rattle.session.specs.Written.{performed_of}
 use Rattle.session.specs.Answers.{told_of, refuse}
 use Rattle.session.specs.declared.Table.{Table}
 use Rattle.session.specs.declared.Session.{Session as Record}
-use Rattle.session.specs.declared.Told.{Told}
-use Rattle.session.specs.declared.writing.Performed.{Performed}
 use Rattle.session.proofs.Rows.{rows_of_lem, rows_count}
 
 -- ---- what the test says
 
 pub count_fits : (d : Record) → consistent d ≡ true → d.pushes.count ≤ 32
-count_fits d h = leb-true d.pushes.count 32 (both_of (leb d.pushes.count 32) _ h).0
+count_fits d h = leb-true d.pushes.count 32 (and_parts (leb d.pushes.count 32) _ h).0
 
 blanks_behind : (d : Record) → consistent d ≡ true → all is_blank (drop d.pushes.count d.pushes.rows) ≡ true
 blanks_behind d h =
-    (both_of (all is_blank (drop d.pushes.count d.pushes.rows)) (sound (session_of d)) (both_of (leb d.pushes.count 32) _ h).1).0
+    (and_parts (all is_blank (drop d.pushes.count d.pushes.rows)) (sound (session_of d)) (and_parts (leb d.pushes.count 32) _ h).1).0
 
 pub sound_session : (d : Record) → consistent d ≡ true → sound (session_of d) ≡ true
 sound_session d h =
-    (both_of (all is_blank (drop d.pushes.count d.pushes.rows)) (sound (session_of d)) (both_of (leb d.pushes.count 32) _ h).1).1
+    (and_parts (all is_blank (drop d.pushes.count d.pushes.rows)) (sound (session_of d)) (and_parts (leb d.pushes.count 32) _ h).1).1
 
 -- ---- a table with blanks behind its count is the one table of its pushes
 
 response_is : (what : Pushed) → is_response what ≡ true → what ≡ Response
 response_is Response h = refl
-response_is Advisory h = absurd (true_false refl (sym h))
+response_is Advisory h = absurd (both_ways _ (sym h) refl)
 
 blank_is : (p : Push) → is_blank p ≡ true → p ≡ no_push
 blank_is p h =
-    let a = both_of (is_response p.what) _ h in
-    let b = both_of (eqb p.number 0) _ a.1 in
-    let e = both_of (eqb p.handle 0) _ b.1 in
-    let f = both_of (eqb p.sent 0) _ e.1 in
+    let a = and_parts (is_response p.what) _ h in
+    let b = and_parts (eqb p.number 0) _ a.1 in
+    let e = and_parts (eqb p.handle 0) _ b.1 in
+    let f = and_parts (eqb p.sent 0) _ e.1 in
     λ i. record {
       what = response_is p.what a.0 i;
       number = eqb-true p.number 0 b.0 i;
@@ -71,7 +66,7 @@ blank_is p h =
 blanks_are : (ps : List Push) → all is_blank ps ≡ true → ps ≡ replicate (length ps) no_push
 blanks_are [] h = refl
 blanks_are (p ∷ ps) h =
-    let e = both_of (is_blank p) (all is_blank ps) h in
+    let e = and_parts (is_blank p) (all is_blank ps) h in
     ap₂ ◌∷◌ (blank_is p e.0) (blanks_are ps e.1)
 
 same_table : (t : Table) → length t.rows ≡ 32 → t.count ≤ 32 → all is_blank (drop t.count t.rows) ≡ true → table_of (rows_of t) ≡ t
@@ -122,11 +117,3 @@ pub when_refused : (d : Record) (c : Call) (k : ℕ) → length d.pushes.rows �
 when_refused d c zero size h e other = absurd (other refl)
 when_refused d c (suc k) size h e other =
     ap (refuse (suc k)) (sym (same_record d size h)) ∙ ap (λ (n : ℕ). told_of (answer n (session_of d) c)) e
-
--- what the code has made of an accepted call, by the move that it found
-pub when_performed : (s : Session) (c : Call) (m : Move) (p : Performed) → m ≡ move_of s c → p ≡ performed_of (moved_by s m) (events_by s m)
-    → ◌≡◌ {A = Told} (record { refusal = 0; next = p.next; events = p.events }) (told_of (answer 0 s c))
-unfolding performed_of
-when_performed s c m p found made =
-    ap (λ (q : Performed). record { refusal = 0; next = q.next; events = q.events }) made
-    ∙ ap (λ (n : Move). told_of (record { refusal = 0; next = moved_by s n; events = events_by s n })) found

@@ -1,7 +1,7 @@
 -- Laws of lists with blanks behind them, and of the tables and event lists that hold them: a table holds what it was made of, and a store
 -- behind the list makes it one longer. Assumes nothing.
-use mathlib.Core.Path.{◌≡◌, refl, sym, ap, ◌∙◌}
-use mathlib.Core.List.{List, [], ◌∷◌, ◌++◌, map, append-nil, append_assoc}
+use mathlib.Core.Path.{◌≡◌, refl, sym, ap, subst⁻¹, ◌∙◌}
+use mathlib.Core.List.{List, [], ◌∷◌, ◌++◌, map, append_assoc}
 use Prim.Native.Nat.{ℕ, suc, ◌+◌, ◌-◌, ◌≤◌, ◌<◌}
 use native.Mathlib.Omega.{arith}
 use lib.ListN.{length, set, length-append, length-take, length-map}
@@ -39,15 +39,9 @@ pub packed_of : (ps : List Push) → length ps ≤ 32 → Packed (table_of ps)
 unfolding table_of
 packed_of ps room = record { fits = room; exact = ap table_of (sym (rows_of_lem ps)) }
 
-pub table_count : (t : Table) (ps : List Push) → t ≡ table_of ps → t.count ≡ length ps
-unfolding table_of
-table_count t ps e = ap (λ (u : Table). u.count) e
-
 pub packed_count : (t : Table) → Packed t → t.count ≡ length (rows_of t)
-packed_count t h = table_count t (rows_of t) h.exact
-
-pub packed_same : (t : Table) → Packed t → t ≡ table_of (rows_of t ++ [])
-packed_same t h = h.exact ∙ ap table_of (sym (append-nil (rows_of t)))
+unfolding table_of
+packed_count t h = ap (λ (u : Table). u.count) h.exact
 
 -- of any table, and of one with room for its count
 pub rows_few : (t : Table) → length (rows_of t) ≤ t.count
@@ -58,12 +52,19 @@ pub rows_count : (t : Table) → length t.rows ≡ 32 → t.count ≤ 32 → len
 unfolding rows_of
 rows_count t size room = simp length-take (omega arith)
 
-pub table_more : (t : Table) (ps : List Push) (p : Push) → t ≡ table_of ps → length ps < 32
-    → ◌≡◌ {A = Table} (record { rows = set t.rows t.count p; count = t.count + 1 }) (table_of (ps ++ p ∷ []))
-unfolding table_of
-table_more t ps p e room =
-    ap (λ (u : Table). record { rows = set u.rows u.count p; count = u.count + 1 }) e
-    ∙ (λ i. record { rows = padded_more 32 no_push ps p room i; count = length_more ps p i })
+-- a store behind the rows of one that has room
+module _ (t : Table) (p : Push) (h : Packed t) (room : length (rows_of t) < 32) where
+  stored : ◌≡◌ {A = Table} (record { rows = set t.rows t.count p; count = t.count + 1 }) (table_of (rows_of t ++ p ∷ []))
+  unfolding table_of
+  stored =
+      ap (λ (u : Table). record { rows = set u.rows u.count p; count = u.count + 1 }) h.exact
+      ∙ (λ i. record { rows = padded_more 32 no_push (rows_of t) p room i; count = length_more (rows_of t) p i })
+
+  pub row_stored : rows_of (record { rows = set t.rows t.count p; count = t.count + 1 }) ≡ rows_of t ++ p ∷ []
+  row_stored = ap rows_of stored ∙ rows_of_lem _
+
+  pub packed_stored : Packed (record { rows = set t.rows t.count p; count = t.count + 1 })
+  packed_stored = subst⁻¹ Packed stored (packed_of _ (omega (arith, length_more (rows_of t) p)))
 
 -- ---- events
 
@@ -86,12 +87,16 @@ events_count e es same = ap (λ (u : Events). u.count) same
 pub listed_count : (e : Events) → Listed e → e.count ≡ length (list_of e)
 listed_count e h = events_count e (list_of e) h.exact
 
-pub listed_same : (e : Events) → Listed e → e ≡ events_of (list_of e ++ [])
-listed_same e h = h.exact ∙ ap events_of (sym (append-nil (list_of e)))
+-- and behind the events
+module _ (e : Events) (x : Event) (h : Listed e) (room : length (list_of e) < 40) where
+  put : ◌≡◌ {A = Events} (record { list = set e.list e.count x; count = e.count + 1 }) (events_of (list_of e ++ x ∷ []))
+  unfolding events_of
+  put =
+      ap (λ (u : Events). record { list = set u.list u.count x; count = u.count + 1 }) h.exact
+      ∙ (λ i. record { list = padded_more 40 no_event (list_of e) x room i; count = length_more (list_of e) x i })
 
-pub events_more : (e : Events) (es : List Event) (x : Event) → e ≡ events_of es → length es < 40
-    → ◌≡◌ {A = Events} (record { list = set e.list e.count x; count = e.count + 1 }) (events_of (es ++ x ∷ []))
-unfolding events_of
-events_more e es x same room =
-    ap (λ (u : Events). record { list = set u.list u.count x; count = u.count + 1 }) same
-    ∙ (λ i. record { list = padded_more 40 no_event es x room i; count = length_more es x i })
+  pub event_stored : list_of (record { list = set e.list e.count x; count = e.count + 1 }) ≡ list_of e ++ x ∷ []
+  event_stored = ap list_of put ∙ list_of_lem _
+
+  pub listed_stored : Listed (record { list = set e.list e.count x; count = e.count + 1 })
+  listed_stored = subst⁻¹ Listed put (listed_of _ (omega (arith, length_more (list_of e) x)))

@@ -13,13 +13,11 @@ use Rattle.conduct.specs.Swapped.{Names}
 use Rattle.conduct.proofs.Swapped.{same_session_left, either_says_the_same}
 use Rattle.session.specs.Rows.{events_of, list_of}
 use Rattle.session.specs.Record.{session_of, record_of, consistent}
-use Rattle.session.specs.Answers.{told_of, refuse}
+use Rattle.session.specs.Answers.{Told, Said, told_of, refuse}
 use Rattle.session.specs.Code.{Asked, answer_to, record_after, answers, roomy}
 use Rattle.session.specs.Swapped.{RecordsLeftAlike, RecordsSayTheSame}
 use Rattle.session.specs.declared.Session.{Session as Record}
 use Rattle.session.specs.declared.Events.{Events}
-use Rattle.session.specs.declared.Told.{Told}
-use Rattle.session.specs.declared.Said.{Said}
 use Rattle.session.proofs.Records.{sound_session, same_session}
 use Rattle.session.proofs.Histories.{told_steps, next_consistent}
 

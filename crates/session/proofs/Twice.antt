@@ -19,12 +19,11 @@ use Rattle.conduct.proofs.Judged.{named_push_judged}
 use Rattle.conduct.proofs.Twice.{one_push_named_twice, session_ok_named, session_ok_named_twice}
 use Rattle.session.specs.Rows.{list_of}
 use Rattle.session.specs.Record.{session_of, record_of, consistent}
-use Rattle.session.specs.Answers.{call_of, call_of_bytes}
+use Rattle.session.specs.Answers.{Told, call_of, call_of_bytes}
 use Rattle.session.specs.Code.{Asked, answer_to, roomy}
 use Rattle.session.specs.Swapped.{AnsweredAs, FindsNothing, RecordsNameOnePush, RecordsNameTheSessionOk}
 use Rattle.session.specs.Swapped.{BytesNaming, NamedByItsBytes, hearing, HeardInEitherOrder}
 use Rattle.session.specs.declared.Session.{Session as Record}
-use Rattle.session.specs.declared.Told.{Told}
 use Rattle.session.proofs.Rows.{list_of_lem}
 use Rattle.session.proofs.Records.{sound_session}
 use Rattle.session.proofs.Histories.{next_consistent}

@@ -15,11 +15,9 @@ use Rattle.conduct.specs.Followed.{first_code, Followed}
 use Rattle.conduct.specs.Reached.{Tested}
 use Rattle.session.specs.Rows.{rows_of, events_of, list_of}
 use Rattle.session.specs.Record.{session_of, consistent, made_of, with_last}
-use Rattle.session.specs.Answers.{told, said_of, written, SaysAndWrites}
+use Rattle.session.specs.Answers.{Told, Said, told, said_of, written, SaysAndWrites}
 use Rattle.session.specs.declared.Session.{Session as Record}
 use Rattle.session.specs.declared.Events.{Events}
-use Rattle.session.specs.declared.Told.{Told}
-use Rattle.session.specs.declared.Said.{Said}
 
 -- ---- calls one after the other, each on the record that the one before handed back
 

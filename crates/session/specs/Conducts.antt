@@ -13,10 +13,9 @@ use Rattle.conduct.specs.declared.Call.TheVariants as calls
 use Rattle.conduct.specs.declared.Conduct.{Conduct}
 use Rattle.conduct.specs.Conducts.{says_redundant, status_for, with_status, is_redundant_answer, by_conduct}
 use Rattle.session.specs.Record.{session_of, consistent}
-use Rattle.session.specs.Answers.{told, call_of_bytes}
+use Rattle.session.specs.Answers.{Told, told, call_of_bytes}
 use Rattle.session.specs.Code.{Asked, answer_to, record_after, answers}
 use Rattle.session.specs.declared.Session.{Session as Record}
-use Rattle.session.specs.declared.Told.{Told}
 
 -- ---- RedundantSession, for any record and any length of the event list: answered as the status for which it stands in the record's conduct
 
@@ -31,7 +30,7 @@ pub record ReadAsRedundant (bytes : List ℕ) : Type 0 where
   pub is_read : message_of class_of link_limits bytes ≡ whole message
   pub is_kind : message.kind ≡ kinds.SessionOpenResponse
   pub is_there : message.status.there ≡ true
-  pub says_it : message.status.status ≡ statuses.RedundantSession
+  pub says_it : message.status.meaning ≡ statuses.RedundantSession
 
 abbrev pub RedundantByItsBytes : Type 0
 RedundantByItsBytes =

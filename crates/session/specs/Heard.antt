@@ -1,14 +1,13 @@
 -- Promise: what is handed in of the bytes of a message, and what that is to a push: so that demand 3's "an Ok with its number" is said of bytes. (proofs/Heard)
 -- Assumes nothing.
-use Rattle.std.specs.Prelude.{◌≡◌, true, false, List, [], ◌∷◌, ℕ}
+use Rattle.std.specs.Prelude.{◌≡◌, true, false, List, [], ◌∷◌, ℕ, Option, Some}
 use Rattle.message.specs.Class.{class_of}
 use Rattle.message.specs.Limits.{link_limits}
 use Rattle.message.specs.Reading.Reading.{whole, refused}
 use Rattle.message.specs.Messages.{message_of}
 use Rattle.message.specs.declared.Kind.{Kind}
 use Rattle.message.specs.declared.Kind.TheVariants as kinds
-use Rattle.message.specs.declared.Number.TheVariants as numbers
-use Rattle.message.specs.declared.NumberValue.{NumberValue}
+use Rattle.message.specs.declared.Value.{Value}
 use Rattle.message.specs.declared.Message.{Message}
 use Rattle.conduct.specs.declared.Call.TheVariants as calls
 use Rattle.conduct.specs.History.{Bearing, says_unreadable, call_bearing}
@@ -27,12 +26,12 @@ abbrev pub bearing_of : ℕ → List ℕ → List Bearing
 bearing_of n bytes = call_bearing n (call_of_bytes bytes)
 
 -- the bytes are read as a message of the kind, and the value in question is there and names n
-pub record Naming (bytes : List ℕ) (kind : Kind) (value : Message → NumberValue) (n : ℕ) : Type 0 where
+pub record Naming (bytes : List ℕ) (kind : Kind) (value : Message → Value (Option ℕ)) (n : ℕ) : Type 0 where
   pub message : Message
   pub is_read : message_of class_of link_limits bytes ≡ whole message
   pub is_kind : message.kind ≡ kind
   pub is_there : (value message).there ≡ true
-  pub names_it : (value message).number ≡ numbers.Names n
+  pub names_it : (value message).meaning ≡ Some n
 
 abbrev pub OkNaming : List ℕ → ℕ → Type 0
 OkNaming bytes n = Naming bytes kinds.Ok (λ m. m.in_response_to) n

@@ -1,8 +1,7 @@
 -- Promise: two messages at once (document 02, M-113), said of the records that the calls take and hand back, whatever is in them, of event lists of any lengths,
 -- and of the bytes of messages. (proofs/Swapped, Twice)
 -- By their contracts the public calls answer `told`, so what is said here of `told` is said of the code. Assumes nothing.
-use Rattle.std.specs.Prelude.{◌≡◌, true, false, List, [], ◌∷◌, ◌++◌, ◌⊎◌, ℕ, ◌≤◌}
-use Rattle.conduct.specs.declared.Awaited.TheVariants as awaited
+use Rattle.std.specs.Prelude.{◌≡◌, true, false, List, [], ◌∷◌, ◌++◌, ◌⊎◌, ℕ, ◌≤◌, Some}
 use Rattle.conduct.specs.declared.State.TheVariants.{Up}
 use Rattle.conduct.specs.declared.Event.{Event}
 use Rattle.conduct.specs.declared.Push.{Push}
@@ -14,11 +13,10 @@ use Rattle.conduct.specs.History.Bearing.{acknowledged, unreadable_message}
 use Rattle.conduct.specs.Swapped.{Names, says_of, once_more, judged, unmatched_in, says_of_session_ok, heard_in}
 use Rattle.session.specs.Rows.{rows_of, list_of}
 use Rattle.session.specs.Record.{session_of, consistent}
-use Rattle.session.specs.Answers.{call_of_bytes, SaysAndWrites}
+use Rattle.session.specs.Answers.{Said, call_of_bytes, SaysAndWrites}
 use Rattle.session.specs.Code.{Asked, answer_to, record_after, answers}
 use Rattle.session.specs.Heard.{OkNaming, AdvisoryNaming}
 use Rattle.session.specs.declared.Session.{Session as Record}
-use Rattle.session.specs.declared.Said.{Said}
 
 -- ---- any two: whichever comes first, the records that are left answer every later list of calls alike
 
@@ -77,7 +75,7 @@ RecordsNameOnePush =
 -- and where both name the open SessionOk, the first closes it
 abbrev pub RecordsNameTheSessionOk : Type 0
 RecordsNameTheSessionOk =
-    (d : Record) (n age : ℕ) (a b : Asked) → consistent d ≡ true → d.state ≡ Up (awaited.Ok n) age → 40 ≤ a.places → 40 ≤ b.places
+    (d : Record) (n age : ℕ) (a b : Asked) → consistent d ≡ true → d.state ≡ Up (Some n) age → 40 ≤ a.places → 40 ≤ b.places
     → (x : Names a.call n) → Names b.call n
     → AnsweredAs d a (record { refusal = 0; next = heard_in (session_of d) age; events = says_of_session_ok x.bearing })
     × FindsNothing (answer_to d a).next b

@@ -1,4 +1,4 @@
--- What the code has while it writes the events of an accepted call. Assumes nothing.
+-- What the code has while it writes the pushes and the events of an accepted call. Assumes nothing.
 use Rattle.std.specs.Prelude.{List, [], ◌∷◌, ◌++◌, ℕ}
 use Rattle.conduct.specs.declared.Push.{Push}
 use Rattle.conduct.specs.declared.Event.{Event}
@@ -9,41 +9,39 @@ use Rattle.conduct.specs.Lists.{flat}
 use Rattle.conduct.specs.Numbers.{Note, next_free, numbered, last_after, all_numbered, last_after_all}
 use Rattle.conduct.specs.Pushes.{keeps, tells}
 use Rattle.conduct.specs.Step.{remark_notes, opens}
-use Rattle.conduct.specs.Session.{Session}
-use Rattle.session.specs.Rows.{table_of, events_of}
-use Rattle.session.specs.Record.{record_of}
-use Rattle.session.specs.declared.writing.Written.{Written}
-use Rattle.session.specs.declared.writing.Swept.{Swept}
-use Rattle.session.specs.declared.writing.Remarked.{Remarked}
-use Rattle.session.specs.declared.writing.Performed.{Performed}
 
-unfoldable pub written_of : List Event → ℕ → Written
-written_of es last = record { events = events_of es; last = last }
-
-unfoldable pub swept_of : List Push → List Event → Swept
-swept_of ps es = record { table = table_of ps; events = events_of es }
-
-unfoldable pub remarked_of : List Push → List Event → ℕ → Remarked
-remarked_of ps es last = record { table = table_of ps; written = written_of es last }
-
-unfoldable pub performed_of : Session → List Event → Performed
-performed_of s es = record { next = record_of s; events = events_of es }
+-- the pushes and the events so far, and the last number taken
+pub record Draft : Type 0 where
+  pub pushes : List Push
+  pub events : List Event
+  pub last : ℕ
 
 -- ---- what each step makes of it: `held` are the numbers held when the call began
 
--- one note more
-abbrev pub noted_by : List ℕ → List Event → ℕ → Note → Written
-noted_by held es last note = written_of (es ++ (numbered held last note ∷ [])) (last_after held last note)
+-- one push, or one event, more
+abbrev pub kept_in : Draft → Push → Draft
+kept_in d p = record { pushes = d.pushes ++ (p ∷ []); events = d.events; last = d.last }
 
--- notes alone
-abbrev pub all_noted : List ℕ → ℕ → List Note → Written
-all_noted held last notes = written_of (all_numbered held last notes) (last_after_all held last notes)
+abbrev pub said_in : Draft → Event → Draft
+said_in d e = record { pushes = d.pushes; events = d.events ++ (e ∷ []); last = d.last }
+
+-- one note more, and notes one after the other
+abbrev pub noted_by : List ℕ → Draft → Note → Draft
+noted_by held d note = record { pushes = d.pushes; events = d.events ++ (numbered held d.last note ∷ []); last = last_after held d.last note }
+
+abbrev pub all_noted : List ℕ → Draft → List Note → Draft
+all_noted held d notes = record { pushes = d.pushes; events = d.events ++ all_numbered held d.last notes; last = last_after_all held d.last notes }
 
 -- what a sweep leaves of the pushes and says of them
-abbrev pub swept_by : Terms → Sweep → List Push → List Event → Swept
-swept_by terms sweep ps es = swept_of (flat (keeps terms sweep) ps) (es ++ flat (tells terms sweep) ps)
+abbrev pub swept_by : Terms → Sweep → List Push → Draft → Draft
+swept_by terms sweep ps d =
+    record { pushes = d.pushes ++ flat (keeps terms sweep) ps; events = d.events ++ flat (tells terms sweep) ps; last = d.last }
 
 -- what is said at the end, and the push that is opened
-abbrev pub remarked_by : List ℕ → List Push → List Event → ℕ → Remark → Remarked
-remarked_by held ps es last remark =
-    remarked_of (ps ++ opens (next_free held last) remark) (es ++ all_numbered held last (remark_notes remark)) (last_after_all held last (remark_notes remark))
+abbrev pub remarked_by : List ℕ → Remark → Draft → Draft
+remarked_by held remark d =
+    record {
+      pushes = d.pushes ++ opens (next_free held d.last) remark;
+      events = d.events ++ all_numbered held d.last (remark_notes remark);
+      last = last_after_all held d.last (remark_notes remark);
+    }

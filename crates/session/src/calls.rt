@@ -1,101 +1,86 @@
 // Any call: the refusals in their order, then what the call does.
-ghost use Rattle.std.specs.Prelude.{◌≡◌, true, ◌≤◌};
-ghost use Rattle.conduct.specs.Session.{fits, refusal_of, held as held_numbers};
+ghost use Rattle.std.specs.Prelude.{◌≡◌, true, ◌≤◌, Ok};
+ghost use Rattle.conduct.specs.Session.{fits, refusal_of};
 ghost use Rattle.conduct.specs.Rules.{move_of};
 ghost use Rattle.conduct.specs.Step.{answer};
 ghost use Rattle.session.specs.Record.{session_of, consistent};
-ghost use Rattle.session.specs.Answers.{refuse, told_of, told};
+ghost use Rattle.session.specs.Answers.{told_of, told, told_said, number_of_refused};
 
-use crate::{Session, Told, consistency, holding, messages, tables, writing};
+use crate::holding::Holding;
+use crate::{Accepted, Refusal, Session, consistency, tables};
 use conduct::{Call, Move, Parting, Remark, State, codes};
 use rules::{moves, numbers, states};
 
 // The shortest event list.
 const PLACES: usize = 40;
 
-// The refusal of a call on a consistent session; 0: it is accepted.
+// Whether a consistent session takes the call.
 #[tactic(auto, using(crate::proofs::Rows::rows_count))]
-fn refusal_of(s: Session, call: Call) -> u32
-    requires { s.pushes.count ≤ 32 }
-    ensures { result ≡ refusal_of (session_of s) call }
+fn allowed(s: &Session, call: Call) -> Result<(), Refusal>
+    requires { s.now.pushes.count ≤ 32 }
+    ensures { number_of_refused result ≡ refusal_of (session_of s.now) call }
 {
-    let state = s.state;
-    let table = s.pushes;
-    if states::is_stopped(state) {
-        return 5;
+    if states::is_stopped(s.state) {
+        return Err(Refusal::Stopped);
     }
-    if !states::fits(state, call) {
-        return 6;
+    if !states::fits(s.state, call) {
+        return Err(Refusal::OutOfState);
     }
-    if !states::is_push(call) {
-        return 0;
+    if states::is_push(call) && tables::MOST <= s.pushes.count {
+        return Err(Refusal::TooManyPushes);
     }
-    if table.count < tables::MOST { 0 } else { 7 }
+    Ok(())
 }
 
-// What an accepted call does, before the numbers are given.
-fn move_of(s: Session, held: &[u32], call: Call) -> Move
-    requires held_value { held.now ≡ held_numbers (session_of s) }
-    requires call_value { fits s.state call ≡ true }
-    ensures { result ≡ move_of (session_of s) call }
-{
-    let state = s.state;
-    match call {
-        Call::Tick => moves::tick(s.site.interval, numbers::next_free(held, s.last), state),
-        Call::Connected => moves::goes(
-            State::Opening(0),
-            Remark::Note(codes::SEND_SESSION_OPEN_REQUEST, 0),
-        ),
-        Call::Lost => moves::waits(Parting::Nothing),
-        Call::Stop => moves::stop(state),
-        Call::Push(what, handle) => moves::goes(state, Remark::Send(what, handle)),
-        Call::Heard(m) => messages::heard(s, held, m),
-        Call::Unreadable(refusal) => moves::goes(state, Remark::Note(codes::UNREADABLE, refusal)),
-    }
-}
-
-fn refused(s: Session, refusal: u32) -> Told
-    ensures { result ≡ refuse refusal s }
-{
-    Told {
-        refusal,
-        next: s,
-        events: writing::none(),
+impl Holding {
+    // What an accepted call does, before the numbers are given.
+    fn move_of(&self, call: Call) -> Move
+        requires { fits self.now.session.state call ≡ true }
+        ensures { result ≡ move_of (session_of self.now.session) call }
+    {
+        let state = self.session.state;
+        match call {
+            Call::Tick => moves::tick(
+                self.session.site.interval,
+                numbers::next_free(self.numbers(), self.session.last),
+                state,
+            ),
+            Call::Connected => moves::goes(
+                State::Opening(0),
+                Remark::Note(codes::SEND_SESSION_OPEN_REQUEST, 0),
+            ),
+            Call::Lost => moves::waits(Parting::Nothing),
+            Call::Stop => moves::stop(state),
+            Call::Push(what, handle) => moves::goes(state, Remark::Send(what, handle)),
+            Call::Heard(m) => self.heard(m),
+            Call::Unreadable(refusal) => moves::goes(
+                state,
+                Remark::Note(codes::UNREADABLE, refusal),
+            ),
+        }
     }
 }
 
 // An accepted call of a consistent session.
-fn accepted(s: Session, call: Call) -> Told
-    requires s_value { consistent s ≡ true }
-    requires call_value { refusal_of (session_of s) call ≡ 0 }
-    ensures { result ≡ told_of (answer 0 (session_of s) call) }
+fn accepted(s: &Session, call: Call) -> Accepted
+    requires s_value { consistent s.now ≡ true }
+    requires call_value { refusal_of (session_of s.now) call ≡ 0 }
+    ensures { told_said s.now (Ok result) ≡ told_of (answer 0 (session_of s.now) call) }
 {
-    let holding = holding::held(s);
-    let numbers = holding.numbers;
-    let held = &numbers[..holding.count];
-    let done = writing::perform(s, held, move_of(s, held, call));
-    let next = done.next;
-    let events = done.events;
-    Told {
-        refusal: 0,
-        next,
-        events,
-    }
+    let holding = Holding::of(s);
+    holding.perform(holding.move_of(call))
 }
 
 #[tactic(auto, using(crate::proofs::Records::when_refused))]
-pub(crate) fn told(s: Session, call: Call, places: usize) -> Told
-    ensures { result ≡ told places s call }
+pub(crate) fn told(s: Session, call: Call, places: usize) -> Result<Accepted, Refusal>
+    ensures { told_said s result ≡ told places s call }
 {
     if places < PLACES {
-        return refused(s, 3);
+        return Err(Refusal::ListTooShort);
     }
-    if !consistency::is_consistent(s) {
-        return refused(s, 27);
+    if !consistency::is_consistent(&s) {
+        return Err(Refusal::Inconsistent);
     }
-    let why = refusal_of(s, call);
-    if why != 0 {
-        return refused(s, why);
-    }
-    accepted(s, call)
+    allowed(&s, call)?;
+    Ok(accepted(&s, call))
 }

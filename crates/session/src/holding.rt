@@ -4,61 +4,54 @@ ghost use Rattle.conduct.specs.Session.{awaited_numbers, session_ok_numbers, hel
 ghost use Rattle.session.specs.Record.{session_of};
 
 use crate::Session;
-use conduct::{Awaited, State};
+use conduct::State;
 
-// The first `count` of the numbers.
+// A session, and the numbers that it holds: the first `count` ones, that of the open SessionOk, if any, and then those of the open pushes.
 #[derive(Clone, Copy)]
 pub(crate) struct Holding {
-    pub(crate) numbers: [u32; 33],
-    pub(crate) count: usize,
+    pub(crate) session: Session,
+    numbers: [u32; 33],
+    count: usize,
+    ghost fits: { count ≤ 33 },
+    ghost held: { take count numbers ≡ held (session_of session) },
 }
 
 // The SessionOk that is open in a state.
-fn awaited_in(state: State) -> Awaited
+fn awaited_in(state: State) -> Option<u32>
     ensures { awaited_numbers result ≡ session_ok_numbers state }
 {
     match state {
-        State::Waiting(_) => Awaited::Nothing,
-        State::Connecting => Awaited::Nothing,
-        State::Opening(_) => Awaited::Nothing,
-        State::Confirming(number, _) => Awaited::Ok(number),
+        State::Confirming(number, _) => Some(number),
         State::Up(awaited, _) => awaited,
-        State::Stopped => Awaited::Nothing,
+        State::Waiting(_) | State::Connecting | State::Opening(_) | State::Stopped => None,
     }
 }
 
-// The number of the open SessionOk, if any, alone.
-fn with_awaited(awaited: Awaited) -> Holding
-    ensures { (take result.count result.numbers ≡ awaited_numbers awaited) × (result.count ≤ 1) }
-{
-    match awaited {
-        Awaited::Nothing => Holding {
-            numbers: [0; 33],
-            count: 0,
-        },
-        Awaited::Ok(number) => Holding {
-            numbers: [number; 33],
-            count: 1,
-        },
+impl Holding {
+    pub(crate) fn of(session: &Session) -> Holding
+        requires { session.now.pushes.count ≤ 32 }
+        ensures { result.session ≡ session.now }
+    {
+        let mut numbers = [0; 33];
+        let mut count = 0;
+        if let Some(number) = awaited_in(session.state) {
+            numbers[0] = number;
+            count = 1;
+        }
+        for p in session.pushes.open_rows() {
+            numbers[count] = p.number;
+            count += 1;
+        }
+        Holding {
+            session: *session,
+            numbers,
+            count,
+        }
     }
-}
 
-// The open SessionOk's number, if any, and then the open pushes' numbers.
-pub(crate) fn held(s: Session) -> Holding
-    requires { s.pushes.count ≤ 32 }
-    ensures { (take result.count result.numbers ≡ held (session_of s)) × (result.count ≤ 33) }
-{
-    let table = s.pushes;
-    let rows = table.rows;
-    let count = table.count;
-    let state = s.state;
-    let mut holding = with_awaited(awaited_in(state));
-    let mut i = 0;
-    while i < count {
-        let at = holding.count;
-        holding.numbers[at] = rows[i].number;
-        holding.count = at + 1;
-        i += 1;
+    pub(crate) fn numbers(&self) -> &[u32]
+        ensures { result.now ≡ held (session_of self.now.session) }
+    {
+        &self.numbers[..self.count]
     }
-    holding
 }

@@ -1,32 +1,24 @@
-// Events are written to a lent list: `fit` decides how many, over numbers.
-ghost use Rattle.std.specs.Prelude.{◌≡◌, length};
-ghost use Rattle.session.specs.Lent.{fit_of, given};
+// Events are written to a lent list.
+ghost use Rattle.session.specs.Answers.{told_said, HasRoom, SaysAndWrites, said_in_list};
+ghost use Rattle.session.specs.declared.Session.{Session as Record};
 
+use crate::{Accepted, Refusal, Said};
 use conduct::Event;
 
-// The places for the events of a call, which gives at most 34.
-const MOST: usize = 40;
-
-// How many events are written: all, or none where there are not so many or they have no room.
-fn fit(count: usize, places: usize) -> usize
-    ensures { result ≡ fit_of count places }
+// Writes the events of an answer to the start of the list. Its later places stay as they are.
+#[tactic(auto, unfolding(crate::specs::Rows::list_of))]
+pub(crate) fn said_in(
+    list: &mut [Event],
+    answer: Result<Accepted, Refusal>,
+) -> Result<Said, Refusal>
+    requires { HasRoom list.old answer }
+    ensures { (d : Record) → SaysAndWrites (told_said d answer) list.old (said_in_list d result) list.new }
 {
-    if count <= places {
-        if count <= MOST { count } else { 0 }
-    } else {
-        0
-    }
-}
-
-// Writes the first events to the start of the list. Its later places stay as they are.
-pub(crate) fn give(list: &mut [Event], events: [Event; 40], count: usize) -> usize
-    ensures { (result ≡ fit_of count (length list.old)) × (list.new ≡ given list.old events result) }
-{
-    let n = fit(count, list.len());
-    let mut i = 0;
-    while i < n {
-        list[i] = events[i];
-        i += 1;
-    }
-    n
+    let accepted = answer?;
+    let count = accepted.events.count;
+    list[..count].copy_from_slice(&accepted.events.list[..count]);
+    Ok(Said {
+        next: accepted.next,
+        count,
+    })
 }

@@ -1,167 +1,148 @@
-// The list of a call's events, and what an accepted call does to the session while it is written.
-ghost use Rattle.std.specs.Prelude.{◌≡◌, ◌++◌, ◌∷◌, [], ◌+◌, ◌≤◌, ◌<◌, length};
+// What an accepted call writes: the pushes that it leaves open, and its events, in their order.
+ghost use Rattle.std.specs.Prelude.{◌≡◌, [], ◌+◌, ◌≤◌, ◌<◌, length};
 ghost use Rattle.conduct.specs.Codes.{sending};
-ghost use Rattle.conduct.specs.Session.{held as held_numbers};
+ghost use Rattle.conduct.specs.Session.{held};
 ghost use Rattle.conduct.specs.Step.{noted as note, parting_notes, opens, moved_by, events_by};
 ghost use Rattle.session.specs.Rows.{Packed, rows_of, Listed, events_of, list_of};
-ghost use Rattle.session.specs.Record.{session_of};
-ghost use Rattle.session.specs.Written.{performed_of, noted_by, all_noted, swept_by, remarked_by};
+ghost use Rattle.session.specs.Record.{session_of, record_of};
+ghost use Rattle.session.specs.Written.{Draft, kept_in, said_in, noted_by, all_noted, swept_by, remarked_by};
 
-use crate::{Events, Session, Table, tables};
+use crate::holding::Holding;
+use crate::{Accepted, Events, Session, Table, tables};
 use conduct::{Event, Fate, Move, Parting, Push, Pushed, Remark, Sweep, Terms, codes};
 use rules::{numbers, pushes};
+use std::marker::Model;
 
-// The events so far, and the last number taken.
-#[derive(Clone, Copy)]
-pub(crate) struct Written {
-    pub(crate) events: Events,
-    pub(crate) last: u32,
+const NO_EVENT: Event = Event {
+    code: 0,
+    number: 0,
+    detail: 0,
+};
+
+// What is written so far, and the last number taken.
+#[derive(Drop)]
+struct Written {
+    table: Table,
+    events: Events,
+    last: u32,
 }
 
-// The pushes that a sweep has left so far, and the events so far.
-#[derive(Clone, Copy)]
-pub(crate) struct Swept {
-    pub(crate) table: Table,
-    pub(crate) events: Events,
+impl Model for Written {
+    ghost Value = { Draft };
+
+    ghost view = { λ w. record { pushes = rows_of w.table; events = list_of w.events; last = w.last } };
+
+    ghost invariant = { λ w. Packed w.table × Listed w.events };
 }
 
-// The pushes, the events and the last number taken when all is said.
-#[derive(Clone, Copy)]
-pub(crate) struct Remarked {
-    pub(crate) table: Table,
-    pub(crate) written: Written,
-}
-
-// An accepted call's session and events.
-#[derive(Clone, Copy)]
-pub(crate) struct Performed {
-    pub(crate) next: Session,
-    pub(crate) events: Events,
-}
-
-pub(crate) fn none() -> Events
-    ensures { result ≡ events_of [] }
-{
-    let blank = Event {
-        code: 0,
-        number: 0,
-        detail: 0,
-    };
-    Events {
-        list: [blank; 40],
-        count: 0,
-    }
-}
-
-impl Events {
-    // One event more, at the end.
-    fn add(mut self, e: Event) -> Events
-        requires listed { Listed self }
-        requires count_bound { self.count < 40 }
-        ensures { result ≡ events_of (list_of self ++ (e ∷ [])) }
+impl Written {
+    fn new(last: u32) -> Written
+        ensures { result ≡ record { pushes = []; events = []; last = last } }
     {
-        let at = self.count;
-        self.list[at] = e;
-        self.count = at + 1;
-        self
+        Written {
+            table: tables::EMPTY,
+            events: Events {
+                list: [NO_EVENT; 40],
+                count: 0,
+            },
+            last,
+        }
     }
-}
 
-// A note with its number, at the end of the events.
-fn noted(held: &[u32], w: Written, code: u32, detail: u32) -> Written
-    requires { (Listed w.events) × (w.events.count < 40) }
-    ensures { result ≡ noted_by held.now (list_of w.events) w.last (note code detail) }
-{
-    let events = w.events;
-    let last = w.last;
-    if numbers::takes_number(code) {
-        let number = numbers::next_free(held, last);
-        let e = Event {
+    // This and the next are of one shape; a common one would be handed the rows and the count apart, and be no plainer.
+    fn keep(&mut self, p: Push)
+        requires { length self.old.pushes < 32 }
+        ensures { self.new ≡ kept_in self.old p }
+    {
+        self.table.rows[self.table.count] = p;
+        self.table.count += 1;
+    }
+
+    fn say(&mut self, e: Event)
+        requires { length self.old.events < 40 }
+        ensures { self.new ≡ said_in self.old e }
+    {
+        self.events.list[self.events.count] = e;
+        self.events.count += 1;
+    }
+
+    // A note with its number.
+    fn note(&mut self, held: &[u32], code: u32, detail: u32)
+        requires { length self.old.events < 40 }
+        ensures { self.new ≡ noted_by held.now self.old (note code detail) }
+    {
+        let mut number = 0;
+        if numbers::takes_number(code) {
+            number = numbers::next_free(held, self.last);
+            self.last = number;
+        }
+        self.say(Event {
             code,
             number,
             detail,
-        };
-        return Written {
-            events: events.add(e),
-            last: number,
-        };
+        });
     }
-    let e = Event {
-        code,
-        number: 0,
-        detail,
-    };
-    Written {
-        events: events.add(e),
-        last,
-    }
-}
 
-// What the session says before it goes.
-fn parted(held: &[u32], last: u32, parting: Parting) -> Written
-    ensures { result ≡ all_noted held.now last (parting_notes parting) }
-{
-    let nothing = Written {
-        events: none(),
-        last,
-    };
-    match parting {
-        Parting::Nothing => nothing,
-        Parting::Disconnect => noted(held, nothing, codes::DISCONNECT, 0),
-        Parting::GoingOut => noted(
-            held,
-            noted(held, nothing, codes::SEND_GOING_OUT_OF_SERVICE, 0),
-            codes::DISCONNECT,
-            0,
-        ),
-        Parting::Alert => {
-            let alerted = noted(held, nothing, codes::SEND_ALERT, 0);
-            noted(
-                held,
-                noted(held, alerted, codes::SEND_GOING_OUT_OF_SERVICE, 0),
-                codes::DISCONNECT,
-                0,
-            )
+    // What the session says before it goes.
+    fn part(&mut self, held: &[u32], parting: Parting)
+        requires { self.old.events ≡ [] }
+        ensures { self.new ≡ all_noted held.now self.old (parting_notes parting) }
+    {
+        match parting {
+            Parting::Nothing => (),
+            Parting::Disconnect => self.note(held, codes::DISCONNECT, 0),
+            Parting::GoingOut => {
+                self.note(held, codes::SEND_GOING_OUT_OF_SERVICE, 0);
+                self.note(held, codes::DISCONNECT, 0);
+            }
+            Parting::Alert => {
+                self.note(held, codes::SEND_ALERT, 0);
+                self.note(held, codes::SEND_GOING_OUT_OF_SERVICE, 0);
+                self.note(held, codes::DISCONNECT, 0);
+            }
         }
     }
-}
 
-// What a sweep leaves of the open pushes, in order of acceptance, and what it says of them behind the events so far. A push is written where it goes, since
-// handing the tables on by value, push for push, took longer than all else in a tick.
-fn sweep_all(terms: Terms, before: Table, sweep: Sweep, said: Events) -> Swept
-    requires count_bound { before.count ≤ 32 }
-    requires listed { (Listed said) × (said.count ≤ 3) }
-    ensures { result ≡ swept_by terms sweep (rows_of before) (list_of said) }
-{
-    let rows = before.rows;
-    let count = before.count;
-    let mut table = tables::empty();
-    let mut events = said;
-    let mut i = 0;
-    while i < count {
-        let p = rows[i];
-        let fate = pushes::fate_of(terms, sweep, p);
-        let at = table.count;
-        let place = events.count;
-        match fate {
-            Fate::Keep(kept) => {
-                table.rows[at] = kept;
-                table.count = at + 1;
-            }
-            Fate::Again(kept, e) => {
-                table.rows[at] = kept;
-                table.count = at + 1;
-                events.list[place] = e;
-                events.count = place + 1;
-            }
-            Fate::Close(e) => {
-                events.list[place] = e;
-                events.count = place + 1;
+    // What a sweep leaves of the open pushes, in order of acceptance, and what it says of them.
+    fn sweep(&mut self, terms: Terms, sweep: Sweep, rows: &[Push])
+        requires nothing_kept { self.old.pushes ≡ [] }
+        requires rows_bound { length rows.now ≤ 32 }
+        requires events_bound { length self.old.events ≤ 3 }
+        ensures { self.new ≡ swept_by terms sweep rows.now self.old }
+    {
+        for p in rows {
+            match pushes::fate_of(terms, sweep, *p) {
+                Fate::Keep(kept) => self.keep(kept),
+                Fate::Again(kept, e) => {
+                    self.keep(kept);
+                    self.say(e);
+                }
+                Fate::Close(e) => self.say(e),
             }
         }
-        i += 1;
     }
-    Swept { table, events }
+
+    // What the call says beside that, and the push that it opens.
+    fn remark(&mut self, held: &[u32], remark: Remark)
+        requires pushes_bound { length self.old.pushes + length (opens 0 remark) ≤ 32 }
+        requires events_bound { length self.old.events < 40 }
+        ensures { self.new ≡ remarked_by held.now remark self.old }
+    {
+        match remark {
+            Remark::Nothing => (),
+            Remark::Note(code, detail) => self.note(held, code, detail),
+            Remark::Send(what, handle) => {
+                self.note(held, sending(what), handle);
+                self.keep(Push {
+                    what,
+                    number: self.last,
+                    handle,
+                    sent: 1,
+                    age: 0,
+                });
+            }
+        }
+    }
 }
 
 fn sending(what: Pushed) -> u32
@@ -173,64 +154,27 @@ fn sending(what: Pushed) -> u32
     }
 }
 
-// What the call says beside that, and the push that it opens.
-fn remark_all(held: &[u32], made: Swept, last: u32, remark: Remark) -> Remarked
-    requires packed { (Packed made.table) × (made.table.count + length (opens 0 remark) ≤ 32) }
-    requires listed { (Listed made.events) × (made.events.count < 40) }
-    ensures { result ≡ remarked_by held.now (rows_of made.table) (list_of made.events) last remark }
-{
-    let table = made.table;
-    let events = made.events;
-    let w = Written { events, last };
-    match remark {
-        Remark::Nothing => Remarked { table, written: w },
-        Remark::Note(code, detail) => Remarked {
-            table,
-            written: noted(held, w, code, detail),
-        },
-        Remark::Send(what, handle) => {
-            let sent = noted(held, w, sending(what), handle);
-            let p = Push {
-                what,
-                number: sent.last,
-                handle,
-                sent: 1,
-                age: 0,
-            };
-            Remarked {
-                table: table.add(p),
-                written: sent,
-            }
+impl Holding {
+    // What an accepted call does: its move, with the numbers given.
+    #[tactic(auto, using(crate::proofs::Rows::rows_few, crate::proofs::Partings::few_partings, conduct::proofs::Kept::kept_few, conduct::proofs::Few::told_few))]
+    pub(crate) fn perform(&self, m: Move) -> Accepted
+        requires { self.now.session.pushes.count + length (opens 0 m.remark) ≤ 32 }
+        ensures next { result.next ≡ record_of (moved_by (session_of self.now.session) m) }
+        ensures events { result.events ≡ events_of (events_by (session_of self.now.session) m) }
+    {
+        let s = &self.session;
+        let mut written = Written::new(s.last);
+        written.part(self.numbers(), m.parting);
+        written.sweep(pushes::terms_of(s.site), m.sweep, s.pushes.open_rows());
+        written.remark(self.numbers(), m.remark);
+        Accepted {
+            next: Session {
+                site: s.site,
+                state: m.to,
+                pushes: written.table,
+                last: written.last,
+            },
+            events: written.events,
         }
-    }
-}
-
-// What an accepted call does: its move, with the numbers given. `held` are the numbers that the session holds.
-pub(crate) fn perform(s: Session, held: &[u32], m: Move) -> Performed
-    requires remark_bound { s.pushes.count + length (opens 0 m.remark) ≤ 32 }
-    requires held_value { held.now ≡ held_numbers (session_of s) }
-    ensures { result ≡ performed_of (moved_by (session_of s) m) (events_by (session_of s) m) }
-{
-    let to = m.to;
-    let parting = m.parting;
-    let sweep = m.sweep;
-    let remark = m.remark;
-    let site = s.site;
-    let before = s.pushes;
-    let first = parted(held, s.last, parting);
-    let said = first.events;
-    let made = sweep_all(pushes::terms_of(site), before, sweep, said);
-    let all = remark_all(held, made, first.last, remark);
-    let table = all.table;
-    let written = all.written;
-    let events = written.events;
-    Performed {
-        next: Session {
-            site,
-            state: to,
-            pushes: table,
-            last: written.last,
-        },
-        events,
     }
 }

@@ -2,61 +2,45 @@
 ghost use Rattle.std.specs.Prelude.{◌≡◌, suc, length};
 ghost use Rattle.message.specs.Class.{class_in};
 ghost use Rattle.message.specs.Markup.{bang_at, around_at, opens_at};
-ghost use Rattle.scan.specs.Answers.{place_said};
+ghost use Rattle.message.specs.Reading.{said};
 
 use crate::runs;
-use scan::{Place, bytes, words};
+use message::{Reason, Refusal};
+use scan::{bytes, refused, words};
 
 // `<` and the byte b stand at the place.
+#[tactic(auto, using(message::proofs::Laws::has_lt))]
 pub fn opens_at(s: &[u8], at: usize, b: u8) -> bool
     ensures { result ≡ opens_at b s.now at }
 {
-    if bytes::is_at(s, at, b'<') {
-        bytes::is_at(s, at + 1, b)
-    } else {
-        false
-    }
+    bytes::is_at(s, at, b'<') && bytes::is_at(s, at + 1, b)
 }
 
 // Reads a comment from its `<!` on; whole openings of what is left out are 12.
-pub fn bang(s: &[u8], table: &[u8; 256], at: usize) -> Place
-    ensures { place_said result ≡ bang_at (class_in table.now) s.now at }
+#[tactic(auto, unfolding(message::specs::Markup::bang_at))]
+pub fn bang(s: &[u8], table: &[u8; 256], at: usize) -> Result<usize, Refusal>
+    ensures { said result ≡ bang_at (class_in table.now) s.now at }
 {
-    let r = bytes::byte(s, at, b'<');
-    let Place::Whole(i) = r else {
-        return r;
-    };
-    let r = bytes::byte(s, i, b'!');
-    let Place::Whole(from) = r else {
-        return r;
-    };
-    if words::spells(s, from, b"DOCTYPE") {
-        return Place::Refused(12, at);
+    let i = bytes::byte(s, at, b'<')?;
+    let from = bytes::byte(s, i, b'!')?;
+    if words::spells(s, from, b"DOCTYPE") || words::spells(s, from, b"[CDATA[") {
+        return refused(Reason::LeftOut, at);
     }
-    if words::spells(s, from, b"[CDATA[") {
-        return Place::Refused(12, at);
-    }
-    let r = words::word(s, from, b"--");
-    let Place::Whole(inside) = r else {
-        return r;
-    };
+    let inside = words::word(s, from, b"--")?;
     runs::comment(s, table, inside)
 }
 
 // Reads white space and comments, up to what is neither.
-pub fn around(s: &[u8], table: &[u8; 256], at: usize) -> Place
-    ensures { place_said result ≡ around_at (class_in table.now) (suc (length s.now)) s.now at }
+pub fn around(s: &[u8], table: &[u8; 256], at: usize) -> Result<usize, Refusal>
+    ensures { said result ≡ around_at (class_in table.now) (suc (length s.now)) s.now at }
 {
-    let mut i = bytes::blanks(s, table, at);
-    while opens_at(s, i, b'!') {
-        let r = bang(s, table, i);
-        let Place::Whole(next) = r else {
-            return r;
-        };
-        i = bytes::blanks(s, table, next);
+    let mut stop = bytes::blanks(s, table, at);
+    while opens_at(s, stop, b'!') {
+        let next = bang(s, table, stop)?;
+        stop = bytes::blanks(s, table, next);
     }
-    if opens_at(s, i, b'?') {
-        return Place::Refused(12, i);
+    if opens_at(s, stop, b'?') {
+        return refused(Reason::LeftOut, stop);
     }
-    Place::Whole(i)
+    Ok(stop)
 }

@@ -1,10 +1,11 @@
 // References: the five predefined ones, and numbers of characters.
-ghost use Rattle.std.specs.Prelude.{◌≡◌, true, suc, ◌≤◌, length};
-ghost use Rattle.message.specs.Reading.{has, one};
+ghost use Rattle.std.specs.Prelude.{◌≡◌, suc, ◌≤◌, length, cond, Some, None};
+ghost use Rattle.message.specs.Reading.{byte_at, has, one, said};
 ghost use Rattle.message.specs.Characters.{legal, digit_of, is_digit, digits_at, closes, numbered_at, stands_at, predefined_at, reference_at};
-ghost use Rattle.scan.specs.Answers.{place_said, character_said};
+ghost use Rattle.scan.specs.Answers.{character_said};
 
-use scan::{Character, Place, bytes, words};
+use message::{Reason, Refusal};
+use scan::{Character, bytes, refused, words};
 
 const LAST_CHARACTER: u32 = 1114111;
 
@@ -12,173 +13,117 @@ const LAST_CHARACTER: u32 = 1114111;
 pub fn legal(code: u32) -> bool
     ensures { result ≡ legal code }
 {
-    if code < 32 {
-        if code == 9 {
-            return true;
-        }
-        if code == 10 {
-            return true;
-        }
-        return code == 13;
-    }
-    if code < 55296 {
-        return true;
-    }
-    if code < 57344 {
-        return false;
-    }
-    if code < 65534 {
-        return true;
-    }
-    if code < 65536 {
-        return false;
-    }
-    code <= LAST_CHARACTER
+    matches!(code, 9 | 10 | 13 | 32..=55295 | 57344..=65533 | 65536..=LAST_CHARACTER)
 }
 
-// What a hexadecimal digit counts for; other bytes are not asked for.
-fn digit(b: u8) -> u32
-    requires { is_digit 16 b ≡ true }
-    ensures { result ≡ digit_of b }
+// What the byte counts for, if it is a digit of the base.
+fn digit(b: u8, base: u32) -> Option<u32>
+    ensures { result ≡ cond (is_digit base b) (Some (digit_of b)) None }
 {
-    if b <= b'9' {
-        return b as u32 - 48;
-    }
-    if b <= b'F' {
-        return b as u32 - 55;
-    }
-    b as u32 - 87
+    let counts = match b {
+        b'0'..=b'9' => b - b'0',
+        b'A'..=b'F' => b - b'A' + 10,
+        b'a'..=b'f' => b - b'a' + 10,
+        _ => return None,
+    };
+    let counts = u32::from(counts);
+    (counts < base).then_some(counts)
 }
 
-// The byte is a digit of the base, 10 or 16.
-fn is_digit(b: u8, base: u32) -> bool
-    requires { base ≤ 16 }
-    ensures { result ≡ is_digit base b }
+#[tactic(auto, unfolding(message::specs::Reading::has))]
+fn digit_at(s: &[u8], at: usize, base: u32) -> Option<u32>
+    ensures { result ≡ cond (has (is_digit base) s.now at) (Some (digit_of (byte_at s.now at))) None }
 {
-    if b < b'0' {
-        return false;
-    }
-    if b > b'f' {
-        return false;
-    }
-    if b > b'9' {
-        if b < b'A' {
-            return false;
-        }
-    }
-    if b > b'F' {
-        if b < b'a' {
-            return false;
-        }
-    }
-    digit(b) < base
-}
-
-fn digit_at(s: &[u8], at: usize, base: u32) -> bool
-    requires { base ≤ 16 }
-    ensures { result ≡ has (is_digit base) s.now at }
-{
-    if at < s.len() {
-        is_digit(s[at], base)
-    } else {
-        false
-    }
+    digit(*s.get(at)?, base)
 }
 
 // Reads the digits from a place on, as far as they make no number past the last character.
-fn digits(s: &[u8], at: usize, base: u32) -> Character
+fn digits(s: &[u8], at: usize, base: u32) -> Result<Character, Refusal>
     requires { base ≤ 16 }
     ensures { character_said result ≡ digits_at (suc (length s.now)) base 0 s.now at }
 {
-    let mut number = 0;
-    let mut i = at;
-    while digit_at(s, i, base) {
-        let more = number * base + digit(s[i]);
+    let mut code = 0;
+    let mut end = at;
+    while let Some(counts) = digit_at(s, end, base) {
+        let more = code * base + counts;
         if more > LAST_CHARACTER {
-            return Character::Refused(9, i);
+            return refused(Reason::NotWellFormed, end);
         }
-        number = more;
-        i += 1;
+        code = more;
+        end += 1;
     }
-    Character::Whole(i, number)
+    Ok(Character { end, code })
+}
+
+// Reads a digit of the base.
+fn one_digit(s: &[u8], at: usize, base: u32) -> Result<usize, Refusal>
+    ensures { said result ≡ one (is_digit base) s.now at }
+{
+    bytes::one(s, at, |b| digit(b, base).is_some())
 }
 
 // Reads the `;` behind the number of a character.
-fn close(s: &[u8], at: usize, code: u32) -> Place
-    ensures { place_said result ≡ one (closes code) s.now at }
+fn close(s: &[u8], at: usize, code: u32) -> Result<usize, Refusal>
+    ensures { said result ≡ one (closes code) s.now at }
 {
-    if bytes::is_at(s, at, b';') {
-        if legal(code) {
-            return Place::Whole(at + 1);
-        }
-    }
-    Place::Refused(9, at)
+    bytes::one(s, at, |b| b == b';' && legal(code))
 }
 
 // Reads the digits of a number and the `;` behind it.
-fn numbered(s: &[u8], at: usize, base: u32) -> Character
+#[tactic(auto, unfolding(message::specs::Characters::numbered_at))]
+fn numbered(s: &[u8], at: usize, base: u32) -> Result<Character, Refusal>
     requires { base ≤ 16 }
     ensures { character_said result ≡ numbered_at base s.now at }
 {
-    if !digit_at(s, at, base) {
-        return Character::Refused(9, at);
-    }
-    let number = digits(s, at, base);
-    let Character::Whole(end, code) = number else {
-        return number;
-    };
-    let r = close(s, end, code);
-    match r {
-        Place::Whole(end) => Character::Whole(end, code),
-        Place::Refused(number, place) => Character::Refused(number, place),
-    }
+    one_digit(s, at, base)?;
+    let number = digits(s, at, base)?;
+    let end = close(s, number.end, number.code)?;
+    Ok(Character { end, ..number })
 }
 
-// Reads what is left of a predefined reference.
-fn stands(s: &[u8], at: usize, word: &[u8], code: u32) -> Character
+// Reads what is left of a predefined reference, which stands for one ASCII character.
+#[tactic(auto, unfolding(message::specs::Characters::stands_at))]
+fn stands(s: &[u8], at: usize, word: &[u8], code: u8) -> Result<Character, Refusal>
     ensures { character_said result ≡ stands_at word.now code s.now at }
 {
-    let r = words::word(s, at, word);
-    match r {
-        Place::Whole(end) => Character::Whole(end, code),
-        Place::Refused(number, place) => Character::Refused(number, place),
-    }
+    let end = words::word(s, at, word)?;
+    let code = u32::from(code);
+    Ok(Character { end, code })
 }
 
-// Reads a predefined reference after its `&`.
-fn predefined(s: &[u8], at: usize) -> Character
+// Reads a predefined reference after its `&`. Byte by byte, and by no table of words: where two begin alike the first byte that fits neither is refused.
+#[tactic(auto, unfolding(message::specs::Characters::predefined_at))]
+fn predefined(s: &[u8], at: usize) -> Result<Character, Refusal>
     ensures { character_said result ≡ predefined_at s.now at }
 {
     if bytes::is_at(s, at, b'l') {
-        return stands(s, at, b"lt;", 60);
+        return stands(s, at, b"lt;", b'<');
     }
     if bytes::is_at(s, at, b'g') {
-        return stands(s, at, b"gt;", 62);
+        return stands(s, at, b"gt;", b'>');
     }
     if bytes::is_at(s, at, b'q') {
-        return stands(s, at, b"quot;", 34);
+        return stands(s, at, b"quot;", b'"');
     }
-    if !bytes::is_at(s, at, b'a') {
-        return Character::Refused(9, at);
+    let i = bytes::byte(s, at, b'a')?;
+    if bytes::is_at(s, i, b'm') {
+        return stands(s, i, b"mp;", b'&');
     }
-    if bytes::is_at(s, at + 1, b'm') {
-        return stands(s, at + 1, b"mp;", 38);
-    }
-    stands(s, at + 1, b"pos;", 39)
+    stands(s, i, b"pos;", b'\'')
 }
 
 // Reads a reference from its `&` on.
-pub fn reference(s: &[u8], at: usize) -> Character
+#[inline(never)]
+#[tactic(auto, using(message::proofs::Laws::has_lt), unfolding(message::specs::Characters::reference_at))]
+pub fn reference(s: &[u8], at: usize) -> Result<Character, Refusal>
     ensures { character_said result ≡ reference_at s.now at }
 {
-    if !bytes::is_at(s, at, b'&') {
-        return Character::Refused(9, at);
+    let i = bytes::byte(s, at, b'&')?;
+    if !bytes::is_at(s, i, b'#') {
+        return predefined(s, i);
     }
-    if !bytes::is_at(s, at + 1, b'#') {
-        return predefined(s, at + 1);
+    if bytes::is_at(s, i + 1, b'x') {
+        return numbered(s, i + 2, 16);
     }
-    if bytes::is_at(s, at + 2, b'x') {
-        return numbered(s, at + 3, 16);
-    }
-    numbered(s, at + 2, 10)
+    numbered(s, i + 1, 10)
 }

@@ -1,9 +1,6 @@
--- Fields of a line, numbers in decimal, and what is written of a field into lent bytes. Assumes nothing.
-use Rattle.std.specs.Prelude.{ℕ, zero, suc, ◌+◌, ◌/◌, ◌%◌, ◌^◌, cond, List, [], ◌∷◌, ◌++◌, ltb, leb, eqb, length}
-use Rattle.std.proofs.Math.Seq.{paste}
+-- Fields of a line, numbers in decimal, and a line that a field is written to. Assumes nothing.
+use Rattle.std.specs.Prelude.{ℕ, zero, suc, ◌+◌, ◌/◌, ◌%◌, ◌^◌, cond, List, [], ◌∷◌, ◌++◌, ltb, leb, eqb, length, Option, None, Some}
 use Rattle.laws.specs.Search.{least}
-use Rattle.message.specs.declared.Number.{Number}
-use Rattle.message.specs.declared.Number.TheVariants.{Nothing, Names}
 
 -- what stands behind a field: a space, or the LF of its line
 abbrev pub space : ℕ
@@ -30,15 +27,12 @@ unfoldable pub decimal : ℕ → List ℕ
 unfolding places
 decimal n = last_digits (places n) n
 
--- ---- a field w from the place `at` on, in so many places; where it has no room nothing is written
+-- ---- a field w behind a line of at most so many bytes; where it has no room nothing is written
 
-abbrev pub end_behind : ℕ → ℕ → List ℕ → ℕ
-end_behind room at w = cond (leb (at + length w) room) (at + length w) at
-
-abbrev pub put_at : List ℕ → ℕ → List ℕ → List ℕ
-put_at out at w = cond (leb (at + length w) (length out)) (paste out at w (length w)) out
+abbrev pub put_in : ℕ → List ℕ → List ℕ → List ℕ
+put_in most line w = cond (leb (length line + length w) most) (line ++ w) line
 
 -- ---- a text of so many bytes that begins with a zero names 0 if that is all
 
-abbrev pub zero_alone : ℕ → Number
-zero_alone length = cond (eqb length 1) (Names 0) Nothing
+abbrev pub zero_alone : ℕ → Option ℕ
+zero_alone length = cond (eqb length 1) (Some 0) None

@@ -1,3 +1,2 @@
--- `Fields` has the fields of a line, and what is written of them into lent bytes, and `Prefixes` what is said of the first of lent bytes.
+-- `Fields` has the fields of a line, and a line that they are written to.
 pub mod Fields
-pub mod Prefixes

@@ -1,158 +1,138 @@
-// Plain text for the programs: fields of a line, written into lent bytes one behind the other, and the words and numbers of a line that is
-// read.
+// Plain text for the programs: a line that is written field by field, and the words and numbers of a line that is read.
 #![tactic(auto)]
 
-ghost use Rattle.std.specs.Prelude.{◌≡◌, ◌+◌, ◌≤◌, length, take, drop};
-ghost use Rattle.std.proofs.Math.Seq.{paste};
+ghost use Rattle.std.specs.Prelude.{◌≡◌, ◌≤◌, ℕ, List, [], length, take, drop};
 ghost use Rattle.laws.specs.Bytes.{same_bytes};
 ghost use Rattle.message.specs.Values.{decimal_from, decimal_of};
-ghost use Rattle.texts.specs.Fields.{field, places, last_digits, decimal, end_behind, put_at, zero_alone};
+ghost use Rattle.texts.specs.Fields.{field, places, last_digits, decimal, put_in, zero_alone};
 
-use message::Number;
+use std::marker::Model;
 
-// Writes a text and the byte behind it to the places from `at` on, and answers the place behind them. Where they have no room nothing is
-// written.
-pub fn put(out: &mut [u8], at: usize, text: &[u8], behind: u8) -> usize
-    ensures ends { result ≡ end_behind (length out.old) at (field text.now behind) }
-    ensures written { out.new ≡ put_at out.old at (field text.now behind) }
-{
-    if out.len() <= at {
-        return at;
+// What stands behind a field.
+pub const SPACE: u8 = b' ';
+
+pub const LINE_END: u8 = b'\n';
+
+// The digits of the largest number.
+const MOST_DIGITS: usize = 20;
+
+// A line of at most N bytes. There is no heap here, and std has no line of a fixed size.
+#[derive(Drop)]
+pub struct Line<const N: usize> {
+    bytes: [u8; N],
+    length: usize,
+}
+
+impl<const N: usize> Model for Line<N> {
+    ghost Value = { List ℕ };
+
+    ghost view = { λ line. take line.length line.bytes };
+
+    ghost invariant = { λ line. line.length ≤ N };
+}
+
+impl<const N: usize> Line<N> {
+    pub fn new() -> Self
+        ensures { result ≡ [] }
+    {
+        Line {
+            bytes: [0; N],
+            length: 0,
+        }
     }
-    if out.len() - at <= text.len() {
-        return at;
+
+    // Writes a text and the byte behind it. Where they have no room nothing is written.
+    pub fn put(&mut self, text: &[u8], behind: u8)
+        ensures { self.new ≡ put_in N self.old (field text.now behind) }
+    {
+        if N - self.length <= text.len() {
+            return;
+        }
+        let end = self.length + text.len();
+        let bytes = &mut self.bytes[..];
+        bytes[self.length..end].copy_from_slice(text);
+        bytes[end] = behind;
+        self.length = end + 1;
     }
-    copy(out, at, text);
-    let end = at + text.len();
-    out[end] = behind;
-    end + 1
+
+    // The same for a number, in decimal. `write!` would not do: what it writes is known only where it answers Ok, and not that it does.
+    pub fn put_number(&mut self, number: u64, behind: u8)
+        ensures { self.new ≡ put_in N self.old (field (decimal number) behind) }
+    {
+        let mut room = [0u8; MOST_DIGITS];
+        let digits = &mut room[..digit_count(number)];
+        write_digits(number, digits);
+        self.put(digits, behind);
+    }
+
+    pub fn as_bytes(&self) -> &[u8]
+        ensures { result.now ≡ self.now }
+    {
+        &self.bytes[..self.length]
+    }
 }
 
-// The same for a number, in decimal.
-pub fn put_number(out: &mut [u8], at: usize, number: u64, behind: u8) -> usize
-    ensures ends { result ≡ end_behind (length out.old) at (field (decimal number) behind) }
-    ensures written { out.new ≡ put_at out.old at (field (decimal number) behind) }
-{
-    let mut digits = [0u8; 20];
-    let count = decimal(number, &mut digits);
-    put(out, at, &digits[..count], behind)
-}
-
-// Writes a number in decimal to the start of `out`, and answers how many digits it has.
-fn decimal(number: u64, out: &mut [u8; 20]) -> usize
-    ensures within { result ≤ 20 }
-    ensures written { take result out.new ≡ decimal number }
-    ensures kept { drop result out.new ≡ drop result out.old }
-{
-    let count = digit_count(number);
-    write_digits(number, count, out);
-    count
-}
-
-// How many digits hold a number. Each turn counts the one that it takes off behind.
+// How many digits hold a number.
+#[tactic(auto, using(crate::proofs::Decimals::places_of_power, crate::proofs::Decimals::places_of_zero))]
 fn digit_count(number: u64) -> usize
     ensures counted { result ≡ places number }
     ensures within { result ≤ 20 }
 {
-    let mut count = 1;
-    let mut rest = number / 10;
-    while rest > 0 {
-        rest /= 10;
-        count += 1;
-    }
-    count
+    number
+        .checked_ilog10()
+        .map_or(1, |power| power as usize + 1)
 }
 
-// Writes the last `count` digits of a number to the start of `out`, the last one first.
-fn write_digits(number: u64, count: usize, out: &mut [u8])
-    requires { count ≤ length out.old }
-    ensures written { take count out.new ≡ last_digits count number }
-    ensures kept { drop count out.new ≡ drop count out.old }
+// Fills `out` with the last digits of a number, the last one first.
+fn write_digits(number: u64, out: &mut [u8])
+    ensures { out.new ≡ last_digits (length out.old) number }
 {
-    let mut at = count;
     let mut rest = number;
-    while at > 0 {
-        at -= 1;
+    for at in (0..out.len()).rev() {
         out[at] = b'0' + (rest % 10) as u8;
         rest /= 10;
     }
 }
 
-// Copies a text to the places of `out` from `at` on.
-fn copy(out: &mut [u8], at: usize, text: &[u8])
-    requires { at + length text.now ≤ length out.old }
-    ensures { out.new ≡ paste out.old at text.now (length text.now) }
-{
-    let mut i = 0;
-    while i < text.len() {
-        out[at + i] = text[i];
-        i += 1;
-    }
-}
-
-// Whether a text begins with a word.
+// Whether a text begins with a word: `starts_with` under the definition's words, which callers' proofs cite.
+#[tactic(auto, using(crate::proofs::Beginnings::starts_same))]
 pub fn begins(text: &[u8], word: &[u8]) -> bool
     ensures { result ≡ same_bytes (take (length word.now) text.now) word.now }
 {
-    if text.len() < word.len() {
-        return false;
-    }
-    let mut i = 0;
-    while i < word.len() {
-        if text[i] != word[i] {
-            return false;
-        }
-        i += 1;
-    }
-    true
+    text.starts_with(word)
 }
 
 // The number that a text has from a place on to its end, in decimal without leading zeros.
 #[tactic(auto, using(crate::proofs::Numbers::no_digits, crate::proofs::Numbers::zero_first, crate::proofs::Numbers::no_zero_first))]
-pub fn number(text: &[u8], from: usize) -> Number
+pub fn number(text: &[u8], from: usize) -> Option<u32>
     ensures { result ≡ decimal_of (drop from text.now) }
 {
-    let length = text.len();
-    if length <= from {
-        return Number::Nothing;
+    if *text.get(from)? == b'0' {
+        return zero_alone(text.len() - from);
     }
-    if text[from] == b'0' {
-        return zero_alone(length - from);
-    }
-    digits(text, from)
+    value(&text[from..])
 }
 
 // A zero stands alone.
-fn zero_alone(length: usize) -> Number
+fn zero_alone(length: usize) -> Option<u32>
     ensures { result ≡ zero_alone length }
 {
-    if length == 1 {
-        return Number::Names(0);
-    }
-    Number::Nothing
+    (length == 1).then_some(0)
 }
 
-// The number of the digits from a place on.
-#[tactic(auto, using(crate::proofs::Numbers::below_digits, crate::proofs::Numbers::above_digits, crate::proofs::Numbers::too_large, crate::proofs::Numbers::next_digit, crate::proofs::Numbers::no_more_digits))]
-fn digits(text: &[u8], from: usize) -> Number
-    requires { from ≤ length text.now }
-    ensures { result ≡ decimal_from 0 (drop from text.now) }
+// The number of so many digits.
+#[tactic(auto, using(crate::proofs::Numbers::no_digit, crate::proofs::Numbers::too_large, crate::proofs::Numbers::next_digit, crate::proofs::Numbers::no_more_digits))]
+fn value(digits: &[u8]) -> Option<u32>
+    ensures { result ≡ decimal_from 0 digits.now }
 {
-    let mut number: u64 = 0;
-    let mut i = from;
-    while i < text.len() {
-        let digit = text[i];
-        if digit < b'0' {
-            return Number::Nothing;
+    let mut number: u32 = 0;
+    for digit in digits {
+        if !digit.is_ascii_digit() {
+            return None;
         }
-        if b'9' < digit {
-            return Number::Nothing;
-        }
-        number = number * 10 + (digit - b'0') as u64;
-        if 4294967295 < number {
-            return Number::Nothing;
-        }
-        i += 1;
+        number = number
+            .checked_mul(10)?
+            .checked_add(u32::from(*digit - b'0'))?;
     }
-    Number::Names(number as u32)
+    Some(number)
 }

@@ -1,40 +1,30 @@
 -- What the letters of a value mean, one by one: each letter that is read ends past its place and within the message, so the loops over a value end,
 -- and the fuel of its meaning is enough. Assumes nothing.
+use Rattle.std.specs.Prelude.{Option, None, Some}
 use Prim.Native.Nat.{ℕ, zero, suc, ◌+◌, ◌-◌, ◌*◌, ◌<◌, ◌≤◌}
 use mathlib.Core.Path.{◌≡◌, refl, sym, ◌∙◌, ap}
 use mathlib.Core.Logic.{◌⊎◌, ⊎_elim}
-use mathlib.Core.Bool.{Bool, true, false}
+use mathlib.Core.Bool.{Bool, false}
 use mathlib.Core.List.{List, [], ◌∷◌}
-use native.Mathlib.Numerals.{add-one}
 use native.Mathlib.Omega.{arith}
-use native.Mathlib.Decide.{dec_lt}
-use lib.ListN.{length, drop, drop_of_length-le}
-use lib.Seq.{drop-cons}
+use lib.ListN.{length}
 use lib.Dec.{eqb}
+use Rattle.std.proofs.lemmas.List.{nil_from_length}
 use borrow.Author.Tests.{lt-ltb, le-ltb, le-leb, lt-leb, eq-eqb, ne_eqb}
 use Rattle.laws.specs.Bytes.{same_bytes}
 use Rattle.message.specs.Class.{between}
-use Rattle.message.specs.Reading.{Reading, ◌>>=◌, is, byte_at, has}
+use Rattle.message.specs.Reading.{Reading}
 use Rattle.message.specs.Reading.Reading.{whole, refused}
 use Rattle.message.specs.Characters.{Character}
-use Rattle.message.specs.Markup.{bang_at}
 use Rattle.message.proofs.Laws.{between_yes}
-use Rattle.message.specs.Values.{attribute_letter_at, text_letter_at, attribute_meaning, content_meaning, means, decimal_from, number_from, decimal_of, number_of}
-use Rattle.message.specs.declared.Number.{Number}
-use Rattle.message.specs.declared.Number.TheVariants.{Nothing, Names}
+use Rattle.values.specs.Pieces.{behind}
+use Rattle.message.specs.Values.{attribute_letter_at, attribute_meaning, means, decimal_from, number_from, decimal_of, number_of}
 
--- two characters that have one number and end at one place
-pub same_end : {e e' c : ℕ} → e ≡ e' → ◌≡◌ {A = Reading Character} (whole (record { end = e; code = c })) (whole (record { end = e'; code = c }))
-same_end h = rw h
-
--- ---- a letter, and what the letters behind it mean
-
-abbrev pub behind : ℕ → Reading (List ℕ) → Reading (List ℕ)
-behind code others = others >>= (λ codes. whole (code ∷ codes))
+-- ---- a letter of an attribute's value, and what the letters behind it mean
 
 module _ (class : ℕ → ℕ) (s : List ℕ) (to at : ℕ) where
   module _ (inside : at < to) where
-    pub attribute_goes : {c : Character} → attribute_letter_at class s at ≡ whole c → (fuel : ℕ) → attribute_meaning class s (suc fuel) to at ≡ behind c.code (attribute_meaning class s fuel to c.end)
+    pub attribute_goes : {c : Character} → attribute_letter_at class s at ≡ whole c → (fuel : ℕ) → attribute_meaning class s (suc fuel) to at ≡ behind (Some c.code) (attribute_meaning class s fuel to c.end)
     unfolding attribute_meaning
     attribute_goes q fuel = rw (lt-ltb at to inside, q)
 
@@ -42,30 +32,9 @@ module _ (class : ℕ → ℕ) (s : List ℕ) (to at : ℕ) where
     unfolding attribute_meaning
     attribute_stops q fuel = rw (lt-ltb at to inside, q)
 
-    pub content_goes : {c : Character} → has (is 60) s at ≡ false → text_letter_at class s at ≡ whole c → (fuel : ℕ) → content_meaning class s (suc fuel) to at ≡ behind c.code (content_meaning class s fuel to c.end)
-    unfolding content_meaning
-    content_goes none q fuel = rw (lt-ltb at to inside, none, q)
-
-    pub content_stops : {n p : ℕ} → has (is 60) s at ≡ false → text_letter_at class s at ≡ refused n p → (fuel : ℕ) → content_meaning class s (suc fuel) to at ≡ refused n p
-    unfolding content_meaning
-    content_stops none q fuel = rw (lt-ltb at to inside, none, q)
-
-    pub comment_goes : {e : ℕ} → has (is 60) s at ≡ true → bang_at class s at ≡ whole e → (fuel : ℕ) → content_meaning class s (suc fuel) to at ≡ content_meaning class s fuel to e
-    unfolding content_meaning
-    comment_goes begins q fuel = rw (lt-ltb at to inside, begins, q)
-
-    pub comment_stops : {n p : ℕ} → has (is 60) s at ≡ true → bang_at class s at ≡ refused n p → (fuel : ℕ) → content_meaning class s (suc fuel) to at ≡ refused n p
-    unfolding content_meaning
-    comment_stops begins q fuel = rw (lt-ltb at to inside, begins, q)
-
-  module _ (over : to ≤ at) where
-    pub attribute_ends : (fuel : ℕ) → attribute_meaning class s (suc fuel) to at ≡ whole []
-    unfolding attribute_meaning
-    attribute_ends fuel = rw (le-ltb at to over)
-
-    pub content_ends : (fuel : ℕ) → content_meaning class s (suc fuel) to at ≡ whole []
-    unfolding content_meaning
-    content_ends fuel = rw (le-ltb at to over)
+  pub attribute_ends : to ≤ at → (fuel : ℕ) → attribute_meaning class s (suc fuel) to at ≡ whole []
+  unfolding attribute_meaning
+  attribute_ends over fuel = rw (le-ltb at to over)
 
 -- ---- What a loop over the letters keeps: it judges what they mean, j being what is left to be judged by, from a place on. With some fuel that is
 -- enough it comes to the answer. There is fuel for one turn even where none is left.
@@ -87,153 +56,137 @@ module _ {J B : Type 0} {judge : J → Reading (List ℕ) → B} {n : ℕ} {read
   judged_done : {x : B} → ((fuel : ℕ) → judge j (reads (suc fuel) at) ≡ x) → x ≡ answer
   judged_done gives = sym (gives judged.fuel) ∙ judged.comes
 
--- ---- whether the letters are those of a word, from its k-th byte on
+-- ---- whether the letters are those of a word
 
-module _ (word : List ℕ) (k : ℕ) where
-  next_same : k < length word → (code : ℕ) → code ≡ byte_at word k → (others : Reading (List ℕ)) → means (drop k word) (behind code others) ≡ means (drop (k + 1) word) others
-  unfolding same_bytes
-  next_same left code h (whole codes) = rw (add-one, drop-cons word k 0 left, eq-eqb code (byte_at word k) h)
-  next_same left code h (refused number place) = refl
+next_same : (code : ℕ) (word : List ℕ) (others : Reading (List ℕ)) → means (code ∷ word) (behind (Some code) others) ≡ means word others
+unfolding same_bytes
+next_same code word (whole codes) = rw (eq-eqb code code refl)
+next_same code word (refused number place) = refl
 
-  next_other : k < length word → (code : ℕ) → (code ≡ byte_at word k → ⊥) → (others : Reading (List ℕ)) → means (drop k word) (behind code others) ≡ false
-  unfolding same_bytes
-  next_other left code h (whole codes) = rw (drop-cons word k 0 left, ne_eqb code (byte_at word k) h)
-  next_other left code h (refused number place) = refl
+next_other : (code b : ℕ) (word : List ℕ) → (code ≡ b → ⊥) → (others : Reading (List ℕ)) → means (b ∷ word) (behind (Some code) others) ≡ false
+unfolding same_bytes
+next_other code b word h (whole codes) = rw (ne_eqb code b h)
+next_other code b word h (refused number place) = refl
 
-  one_more : length word ≤ k → (code : ℕ) (others : Reading (List ℕ)) → means (drop k word) (behind code others) ≡ false
-  unfolding same_bytes
-  one_more h code (whole codes) = rw (drop_of_length-le word {i = k} h)
-  one_more h code (refused number place) = refl
+one_more : (code : ℕ) (others : Reading (List ℕ)) → means [] (behind (Some code) others) ≡ false
+unfolding same_bytes
+one_more code (whole codes) = refl
+one_more code (refused number place) = refl
 
-  no_more : k ≤ length word → means (drop k word) (whole []) ≡ eqb k (length word)
-  unfolding same_bytes
-  no_more h =
-      elim (dec_lt k (length word)) [
-        | yes l ↦ rw (drop-cons word k 0 l, ne_eqb k (length word) (λ e. omega arith))
-        | no l ↦ rw (drop_of_length-le word {i = k} (omega arith), eq-eqb k (length word) (omega arith))
-      ]
+no_more : (word : List ℕ) → means word (whole []) ≡ eqb (length word) 0
+unfolding same_bytes
+no_more [] = refl
+no_more (b ∷ word) = sym (ne_eqb (suc (length word)) 0 (λ e. omega arith))
 
-  module _ {n : ℕ} {reads : ℕ → ℕ → Reading (List ℕ)} {answer : Bool} {at : ℕ} (spelled : Judged means n reads answer (drop k word) at) where
-    pub spelled_refused : {number place : ℕ} → ((fuel : ℕ) → reads (suc fuel) at ≡ refused number place) → false ≡ answer
-    spelled_refused stops = judged_done spelled (λ fuel. ap (means (drop k word)) (stops fuel))
+module _ {n : ℕ} {reads : ℕ → ℕ → Reading (List ℕ)} {answer : Bool} {word : List ℕ} {at : ℕ} (spelled : Judged means n reads answer word at) where
+  pub spelled_refused : {number place : ℕ} → ((fuel : ℕ) → reads (suc fuel) at ≡ refused number place) → false ≡ answer
+  spelled_refused stops = judged_done spelled (λ fuel. ap (means word) (stops fuel))
 
-    pub spelled_all : k ≤ length word → ((fuel : ℕ) → reads (suc fuel) at ≡ whole []) → eqb k (length word) ≡ answer
-    spelled_all h ends = judged_done spelled (λ fuel. ap (means (drop k word)) (ends fuel) ∙ no_more h)
+  pub spelled_all : ((fuel : ℕ) → reads (suc fuel) at ≡ whole []) → eqb (length word) 0 ≡ answer
+  spelled_all ends = judged_done spelled (λ fuel. ap (means word) (ends fuel) ∙ no_more word)
 
-    -- past what means nothing
-    pub spelled_past : {e : ℕ} → (at < e) × (e ≤ n) → ((fuel : ℕ) → reads (suc fuel) at ≡ reads fuel e) → Judged means n reads answer (drop k word) e
-    spelled_past further goes = judged_on spelled (drop k word) further (λ fuel. ap (means (drop k word)) (goes fuel))
+  -- past what means nothing
+  pub spelled_past : {e : ℕ} → (at < e) × (e ≤ n) → ((fuel : ℕ) → reads (suc fuel) at ≡ reads fuel e) → Judged means n reads answer word e
+  spelled_past further goes = judged_on spelled word further (λ fuel. ap (means word) (goes fuel))
 
-    -- the next letter, whose number is the code
-    module _ (code e : ℕ) (goes : (fuel : ℕ) → reads (suc fuel) at ≡ behind code (reads fuel e)) where
-      pub spelled_more : length word ≤ k → false ≡ answer
-      spelled_more h = judged_done spelled (λ fuel. ap (means (drop k word)) (goes fuel) ∙ one_more h code (reads fuel e))
+  -- the next letter, whose number is the code
+  module _ (code e : ℕ) (goes : (fuel : ℕ) → reads (suc fuel) at ≡ behind (Some code) (reads fuel e)) where
+    read_as : {w : List ℕ} → word ≡ w → (fuel : ℕ) → means word (reads (suc fuel) at) ≡ means w (behind (Some code) (reads fuel e))
+    read_as word_is fuel = ap (means word) (goes fuel) ∙ ap (λ (w : List ℕ). means w (behind (Some code) (reads fuel e))) word_is
 
-      pub spelled_other : k < length word → (code ≡ byte_at word k → ⊥) → false ≡ answer
-      spelled_other left h = judged_done spelled (λ fuel. ap (means (drop k word)) (goes fuel) ∙ next_other left code h (reads fuel e))
+    pub spelled_more : length word ≡ 0 → false ≡ answer
+    spelled_more none = judged_done spelled (λ fuel. read_as (nil_from_length word none) fuel ∙ one_more code (reads fuel e))
 
-      pub spelled_same : k < length word → code ≡ byte_at word k → (at < e) × (e ≤ n) → Judged means n reads answer (drop (k + 1) word) e
-      spelled_same left h further =
-          judged_on spelled (drop (k + 1) word) further (λ fuel. ap (means (drop k word)) (goes fuel) ∙ next_same left code h (reads fuel e))
+    pub spelled_other : {b : ℕ} {rest : List ℕ} → word ≡ b ∷ rest → (code ≡ b → ⊥) → false ≡ answer
+    spelled_other {b} {rest} word_is h = judged_done spelled (λ fuel. read_as word_is fuel ∙ next_other code b rest h (reads fuel e))
+
+    pub spelled_same : {b : ℕ} {rest : List ℕ} → word ≡ b ∷ rest → code ≡ b → (at < e) × (e ≤ n) → Judged means n reads answer rest e
+    spelled_same {rest = rest} word_is same further =
+        judged_on spelled rest further (λ fuel. read_as (word_is ∙ ap (λ (b : ℕ). b ∷ rest) (sym same)) fuel ∙ next_same code rest (reads fuel e))
 
 -- ---- the number that digits make, behind those that make m
 
 module _ (m code : ℕ) where
-  next_digit : 48 ≤ code → code ≤ 57 → m * 10 + (code - 48) ≤ 4294967295 → (others : Reading (List ℕ)) → number_from m (behind code others) ≡ number_from (m * 10 + (code - 48)) others
+  next_digit : 48 ≤ code → code ≤ 57 → m * 10 + (code - 48) ≤ 4294967295 → (others : Reading (List ℕ)) → number_from m (behind (Some code) others) ≡ number_from (m * 10 + (code - 48)) others
   unfolding decimal_from
   next_digit low high h (whole codes) = rw (between_yes 48 57 code low high, le-leb (m * 10 + (code - 48)) 4294967295 h)
   next_digit low high h (refused number place) = refl
 
-  too_large : 48 ≤ code → code ≤ 57 → 4294967295 < m * 10 + (code - 48) → (others : Reading (List ℕ)) → number_from m (behind code others) ≡ Nothing
+  too_large : 48 ≤ code → code ≤ 57 → 4294967295 < m * 10 + (code - 48) → (others : Reading (List ℕ)) → number_from m (behind (Some code) others) ≡ None
   unfolding decimal_from
   too_large low high h (whole codes) = rw (between_yes 48 57 code low high, lt-leb (m * 10 + (code - 48)) 4294967295 h)
   too_large low high h (refused number place) = refl
 
-  no_digit : between 48 57 code ≡ false → (others : Reading (List ℕ)) → number_from m (behind code others) ≡ Nothing
+  no_digit : between 48 57 code ≡ false → (others : Reading (List ℕ)) → number_from m (behind (Some code) others) ≡ None
   unfolding decimal_from
   no_digit h (whole codes) = rw h
   no_digit h (refused number place) = refl
 
-module _ {n : ℕ} {reads : ℕ → ℕ → Reading (List ℕ)} {answer : Number} {m at : ℕ} (counted : Judged number_from n reads answer m at) where
-  pub counted_refused : {number place : ℕ} → ((fuel : ℕ) → reads (suc fuel) at ≡ refused number place) → Nothing ≡ answer
+module _ {n : ℕ} {reads : ℕ → ℕ → Reading (List ℕ)} {answer : Option ℕ} {m at : ℕ} (counted : Judged number_from n reads answer m at) where
+  pub counted_refused : {number place : ℕ} → ((fuel : ℕ) → reads (suc fuel) at ≡ refused number place) → None ≡ answer
   counted_refused stops = judged_done counted (λ fuel. ap (number_from m) (stops fuel))
 
-  pub counted_all : ((fuel : ℕ) → reads (suc fuel) at ≡ whole []) → Names m ≡ answer
+  pub counted_all : ((fuel : ℕ) → reads (suc fuel) at ≡ whole []) → Some m ≡ answer
   unfolding decimal_from
   counted_all ends = judged_done counted (λ fuel. ap (number_from m) (ends fuel))
 
   -- the next letter, whose number is the code
-  module _ (code e : ℕ) (goes : (fuel : ℕ) → reads (suc fuel) at ≡ behind code (reads fuel e)) where
-    pub counted_none : between 48 57 code ≡ false → Nothing ≡ answer
+  module _ (code e : ℕ) (goes : (fuel : ℕ) → reads (suc fuel) at ≡ behind (Some code) (reads fuel e)) where
+    pub counted_none : between 48 57 code ≡ false → None ≡ answer
     counted_none h = judged_done counted (λ fuel. ap (number_from m) (goes fuel) ∙ no_digit m code h (reads fuel e))
+
+    pub counted_large : 48 ≤ code → code ≤ 57 → 4294967295 < m * 10 + (code - 48) → None ≡ answer
+    counted_large low high h = judged_done counted (λ fuel. ap (number_from m) (goes fuel) ∙ too_large m code low high h (reads fuel e))
 
     pub counted_digit : 48 ≤ code → code ≤ 57 → m * 10 + (code - 48) ≤ 4294967295 → (at < e) × (e ≤ n) → Judged number_from n reads answer (m * 10 + (code - 48)) e
     counted_digit low high h further =
         judged_on counted (m * 10 + (code - 48)) further (λ fuel. ap (number_from m) (goes fuel) ∙ next_digit m code low high h (reads fuel e))
 
--- the number of a letter, and 0 of what is none
-abbrev pub number_of_letter : Reading Character → ℕ
-number_of_letter (whole c) = c.code
-number_of_letter (refused number place) = 0
-
--- the next letter, where the number with it is too large
-pub large_letter : (class : ℕ → ℕ) (s : List ℕ) (to at m fuel : ℕ) → at < to
-    → 48 ≤ number_of_letter (attribute_letter_at class s at) → number_of_letter (attribute_letter_at class s at) ≤ 57
-    → 4294967295 < m * 10 + (number_of_letter (attribute_letter_at class s at) - 48)
-    → number_from m (attribute_meaning class s (suc fuel) to at) ≡ Nothing
-large_letter class s to at m fuel inside low high large = go (attribute_letter_at class s at) refl low high large
-  where
-    go : (a : Reading Character) → attribute_letter_at class s at ≡ a → 48 ≤ number_of_letter a → number_of_letter a ≤ 57
-        → 4294967295 < m * 10 + (number_of_letter a - 48) → number_from m (attribute_meaning class s (suc fuel) to at) ≡ Nothing
-    go (whole c) q low high large = ap (number_from m) (attribute_goes class s to at inside q fuel)
-        ∙ too_large m c.code low high large (attribute_meaning class s fuel to c.end)
-    go (refused number place) q low high large = absurd (omega arith)
-
 -- ---- A zero that leads others makes no number; otherwise all digits are counted from 0.
 
-two_digits : (d : ℕ) (others : Reading (List ℕ)) → number_of (behind 48 (behind d others)) ≡ Nothing
+two_digits : (d : ℕ) (others : Reading (List ℕ)) → number_of (behind (Some 48) (behind (Some d) others)) ≡ None
 unfolding decimal_of
 two_digits d (whole codes) = refl
 two_digits d (refused number place) = refl
 
-not_zero : (code : ℕ) → (code ≡ 48 → ⊥) → (others : Reading (List ℕ)) → number_from 0 (behind code others) ≡ number_of (behind code others)
+not_zero : (code : ℕ) → (code ≡ 48 → ⊥) → (others : Reading (List ℕ)) → number_from 0 (behind (Some code) others) ≡ number_of (behind (Some code) others)
 unfolding decimal_of
 not_zero code h (whole []) = refl
 not_zero code h (whole (d ∷ codes)) = rw (ne_eqb code 48 h)
 not_zero code h (refused number place) = refl
 
 module _ (class : ℕ → ℕ) (s : List ℕ) (to at : ℕ) where
-  pub number_empty : to ≤ at → (fuel : ℕ) → Nothing ≡ number_of (attribute_meaning class s (suc fuel) to at)
+  pub number_empty : to ≤ at → (fuel : ℕ) → None ≡ number_of (attribute_meaning class s (suc fuel) to at)
   unfolding decimal_of
   number_empty over fuel = sym (ap number_of (attribute_ends class s to at over fuel))
 
-  leading_zero_lem : at < to → (fuel : ℕ) → number_of (behind 48 (attribute_meaning class s fuel to at)) ≡ Nothing
+  leading_zero_lem : at < to → (fuel : ℕ) → number_of (behind (Some 48) (attribute_meaning class s fuel to at)) ≡ None
   unfolding attribute_meaning
   leading_zero_lem inside zero = refl
   leading_zero_lem inside (suc fuel) = go (attribute_letter_at class s at) refl
     where
-      go : (a : Reading Character) → attribute_letter_at class s at ≡ a → number_of (behind 48 (attribute_meaning class s (suc fuel) to at)) ≡ Nothing
+      go : (a : Reading Character) → attribute_letter_at class s at ≡ a → number_of (behind (Some 48) (attribute_meaning class s (suc fuel) to at)) ≡ None
       go (whole c) q =
-          ap (λ (a : Reading (List ℕ)). number_of (behind 48 a)) (attribute_goes class s to at inside q fuel)
+          ap (λ (a : Reading (List ℕ)). number_of (behind (Some 48) a)) (attribute_goes class s to at inside q fuel)
           ∙ two_digits c.code (attribute_meaning class s fuel to c.end)
-      go (refused number place) q = ap (λ (a : Reading (List ℕ)). number_of (behind 48 a)) (attribute_stops class s to at inside q fuel)
+      go (refused number place) q = ap (λ (a : Reading (List ℕ)). number_of (behind (Some 48) a)) (attribute_stops class s to at inside q fuel)
 
   -- the last letter is the first
-  alone : to ≤ at → (code fuel : ℕ) → number_from 0 (behind code (attribute_meaning class s fuel to at)) ≡ number_of (behind code (attribute_meaning class s fuel to at))
+  alone : to ≤ at → (code fuel : ℕ) → number_from 0 (behind (Some code) (attribute_meaning class s fuel to at)) ≡ number_of (behind (Some code) (attribute_meaning class s fuel to at))
   unfolding attribute_meaning decimal_of
   alone over code zero = refl
   alone over code (suc fuel) = rw (le-ltb at to over)
 
 module _ (class : ℕ → ℕ) (s : List ℕ) (to at : ℕ) (inside : at < to) where
-  pub number_refused : {number place : ℕ} → attribute_letter_at class s at ≡ refused number place → (fuel : ℕ) → Nothing ≡ number_of (attribute_meaning class s (suc fuel) to at)
+  pub number_refused : {number place : ℕ} → attribute_letter_at class s at ≡ refused number place → (fuel : ℕ) → None ≡ number_of (attribute_meaning class s (suc fuel) to at)
   number_refused q fuel = sym (ap number_of (attribute_stops class s to at inside q fuel))
 
   module _ {c : Character} (q : attribute_letter_at class s at ≡ whole c) (fuel : ℕ) where
-    pub number_leading : c.code ≡ 48 → c.end < to → Nothing ≡ number_of (attribute_meaning class s (suc fuel) to at)
+    pub number_leading : c.code ≡ 48 → c.end < to → None ≡ number_of (attribute_meaning class s (suc fuel) to at)
     number_leading is_zero more =
         sym (
         ap number_of (attribute_goes class s to at inside q fuel)
-        ∙ ap (λ (d : ℕ). number_of (behind d (attribute_meaning class s fuel to c.end))) is_zero
+        ∙ ap (λ (d : ℕ). number_of (behind (Some d) (attribute_meaning class s fuel to c.end))) is_zero
         ∙ leading_zero_lem class s to c.end more fuel)
 
     pub number_counted : ((c.code ≡ 48) × (to ≤ c.end)) ⊎ (c.code ≡ 48 → ⊥) → number_from 0 (attribute_meaning class s (suc fuel) to at) ≡ number_of (attribute_meaning class s (suc fuel) to at)

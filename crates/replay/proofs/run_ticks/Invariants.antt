@@ -1,10 +1,7 @@
--- `replay::run_ticks` meets its contract: before each turn the ticks that are left come to what all do (`Turns`). Assumes nothing.
-use mathlib.Core.Path.{◌≡◌}
+-- Before each turn the ticks that are left come to what all do.
+use Rattle.std.proofs.Common.{◌≡◌, ◌-◌}
 use Rattle.replay.specs.Runs.{ticked}
 use Rattle.replay.proofs.run_ticks.Given as goal
 
-abbrev pub invariant-loop-left : goal.invariant-loop-left
-invariant-loop-left g l = (ticked l.left l.run).run ≡ (ticked l.count l.initial.run).run
-
-abbrev pub decreases-loop-left : goal.decreases-loop-left
-decreases-loop-left g l = l.left
+abbrev pub invariant-loop : goal.invariant-loop
+invariant-loop g l = (ticked (l.count - l.counter) l.run).run ≡ (ticked l.count l.initial.run).run

@@ -1,5 +1,5 @@
--- `replay::take_line` meets its contract: phase by phase (`Turns`). Assumes nothing.
-use mathlib.Core.Path.{ap, ◌∙◌}
+-- Phase by phase (`Turns`).
+use Rattle.std.proofs.Common.{ap, ◌∙◌}
 use Rattle.replay.specs.Runs.{next_line}
 use Rattle.replay.proofs.Turns.{taken_ready}
 use Rattle.replay.proofs.take_line.Goals as goal

@@ -1,8 +1,5 @@
--- `replay::take_rest` meets its contract: by the count of the bytes that wait (`Turns`). Assumes nothing.
-use mathlib.Core.Path.{ap, ◌∙◌}
-use native.Mathlib.Omega.{arith}
-use lib.ListN.{take}
-use Rattle.texts.proofs.Prefixes.{length-take_of_le}
+-- By the count of the bytes that wait (`Turns`).
+use Rattle.std.proofs.Common.{arith, ap, ◌∙◌, take}
 use Rattle.replay.specs.declared.script.Line.{Line}
 use Rattle.replay.specs.Runs.{taken}
 use Rattle.replay.proofs.Words.{word_within}
@@ -17,10 +14,7 @@ returns-then-held-eq0 g c =
 pub returns-then-held-gt-LINK_LIMIT : goal.returns-then-held-gt-LINK_LIMIT
 returns-then-held-gt-LINK_LIMIT g c =
     let a = c.args in
-    c.take_line.ensures ∙ too_much_waits a.held.run a.store.now a.held.gathered c.requires c.if-held-gt-LINK_LIMIT.true
-
-pub slice_bounds-bytes-end : goal.slice_bounds-bytes-end
-slice_bounds-bytes-end g c = length-take_of_le _ _ (omega arith)
+    c.take_line.ensures ∙ too_much_waits a.held.run a.store.now a.held.gathered (omega arith) c.if-held-gt-LINK_LIMIT.true
 
 pub take_line-requires-2 : goal.take_line-requires-2
 take_line-requires-2 g c =
@@ -32,4 +26,4 @@ returns g c =
     let a = c.args in
     let bytes = take a.held.gathered a.store.now in
     c.take_line-2.ensures ∙ ap (λ (l : Line). (taken a.held.run l bytes).run) c.line_of.ensures
-    ∙ a_line_waits a.held.run a.store.now a.held.gathered c.requires c.if-held-eq0.false c.if-held-gt-LINK_LIMIT.false
+    ∙ a_line_waits a.held.run a.store.now a.held.gathered (omega arith) c.if-held-eq0.false c.if-held-gt-LINK_LIMIT.false

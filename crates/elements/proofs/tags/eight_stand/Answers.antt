@@ -1,20 +1,14 @@
--- `elements::tags::eight_stand` meets its contract. The invariant of its loop: `same` says whether the first k of the eight are. Assumes nothing.
-use mathlib.Core.Path.{◌≡◌, sym}
-use borrow.Author.Rules.{rules}
+-- `elements::tags::eight_stand` meets its contract. The invariant of its loop: `same` says whether the first i of the eight are. Assumes nothing.
+use mathlib.Core.Path.{sym}
 use native.Mathlib.Omega.{arith}
 use Rattle.laws.proofs.Same.{same_none, same_more}
 use Rattle.elements.proofs.tags.eight_stand.Goals as goal
 
-pub loop-k-init : goal.loop-k-init
-loop-k-init c = (search rules, sym (same_none _ _ _ _))
+pub loop-i-init : goal.loop-i-init
+loop-i-init c = sym (same_none _ _ _ _)
 
-pub loop-k-preserved : goal.loop-k-preserved
-loop-k-preserved c =
+pub loop-i-preserved : goal.loop-i-preserved
+loop-i-preserved c =
     let a = c.args in
-    let at-loop = c.loop-k in
-    (search rules, same_more a.s.now a.b a.s.now a.at at-loop.k at-loop.same (search rules) (search rules) at-loop.invariant.1)
-
-pub returns : goal.returns
-returns c =
-    let all : c.loop-k.k ≡ 8 = omega arith in
-    rw all at c.loop-k.invariant.1
+    let at-loop = c.loop-i in
+    same_more a.s.now a.b a.s.now a.at at-loop.i at-loop.same (omega arith) (omega arith) at-loop.invariant

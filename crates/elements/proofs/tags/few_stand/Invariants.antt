@@ -1,12 +1,8 @@
--- `elements::tags::few_stand` meets its contract. The invariant of its loop: the first k bytes are the same. Assumes nothing.
-use Prim.Native.Nat.{◌-◌, ◌≤◌}
+-- `elements::tags::few_stand` meets its contract. The invariant of its loop: the bytes at each place below i are the same. Assumes nothing.
+use Prim.Native.Nat.{ℕ, ◌+◌, ◌<◌}
 use mathlib.Core.Path.{◌≡◌}
-use mathlib.Core.Bool.{true}
-use Rattle.laws.specs.Bytes.{same_at}
+use lib.ListN.{get_or}
 use Rattle.elements.proofs.tags.few_stand.Given as goal
 
-abbrev pub invariant-loop-k : goal.invariant-loop-k
-invariant-loop-k l = (l.k ≤ l.n) × (same_at l.k l.s l.b l.s l.at ≡ true)
-
-abbrev pub decreases-loop-k : goal.decreases-loop-k
-decreases-loop-k l = l.n - l.k
+abbrev pub invariant-loop-i : goal.invariant-loop-i
+invariant-loop-i l = (y : ℕ) → y < l.i → get_or l.s (l.at + y) 0 ≡ get_or l.s (l.b + y) 0

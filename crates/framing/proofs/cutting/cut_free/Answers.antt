@@ -14,8 +14,8 @@ returns-then-place-end c =
     let first : First b p 0 (length p - length b + 1) place.result = rw place.ensures (first_has b p 0 (length p - length b + 1) (omega arith)) in
     cut_found b p (omega arith) (omega arith) place.result first c.if-place-end.true
 
-pub returns : goal.returns
-returns c =
+pub returns-else-place-end : goal.returns-else-place-end
+returns-else-place-end c =
     let b = c.args.boundary.now in
     let p = c.args.piece.now in
     let place = c.first_place-place in

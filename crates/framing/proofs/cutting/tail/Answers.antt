@@ -1,6 +1,7 @@
--- `framing::cutting::tail` meets its contract. The invariant of its loop: no more than `tried` first bytes of the boundary end the piece. Assumes nothing.
+-- `framing::cutting::tail` meets its contract. The invariant of its loop: no more than the first bytes still to be tried end the piece. Assumes nothing.
+use Prim.Native.Nat.{◌-◌}
 use mathlib.Core.Path.{sym, ◌∙◌}
-use borrow.Author.Rules.{rules}
+use native.Mathlib.Omega.{arith}
 use lib.ListN.{length}
 use Rattle.framing.proofs.Borders.{above_next, above_found, above_none}
 use Rattle.framing.proofs.Pieces.{tail_stands}
@@ -9,21 +10,18 @@ use Rattle.framing.proofs.cutting.tail.Goals as goal
 pub returns-then-part_stands : goal.returns-then-part_stands
 returns-then-part_stands c =
     let a = c.args in
-    let at-loop = c.loop-tried in
-    above_found (length a.boundary.now) a.boundary.now a.piece.now at-loop.tried at-loop.invariant.1 (search rules)
-    (sym (tail_stands a.boundary.now a.piece.now at-loop.tried (search rules) (search rules)) ∙ sym c.part_stands.ensures ∙ c.if-part_stands.true)
+    let tried = c.loop-tried.tried - 1 in
+    above_found (length a.boundary.now) a.boundary.now a.piece.now tried c.loop-tried.invariant (omega arith)
+    (sym (tail_stands a.boundary.now a.piece.now tried (omega arith) (omega arith)) ∙ sym c.part_stands.ensures ∙ c.if-part_stands.true)
 
 pub loop-tried-preserved : goal.loop-tried-preserved
 loop-tried-preserved c =
     let a = c.args in
-    let at-loop = c.loop-tried in (
-      search rules,
-      above_next (length a.boundary.now) a.boundary.now a.piece.now at-loop.tried at-loop.invariant.1
-          (sym (tail_stands a.boundary.now a.piece.now at-loop.tried (search rules) (search rules)) ∙ sym c.part_stands.ensures ∙ c.if-part_stands.false),
-    )
+    let tried = c.loop-tried.tried - 1 in
+    above_next (length a.boundary.now) a.boundary.now a.piece.now tried c.loop-tried.invariant
+    (sym (tail_stands a.boundary.now a.piece.now tried (omega arith) (omega arith)) ∙ sym c.part_stands.ensures ∙ c.if-part_stands.false)
 
 pub returns : goal.returns
 returns c =
     let a = c.args in
-    let at-loop = c.loop-tried in
-    above_none (length a.boundary.now) a.boundary.now a.piece.now at-loop.tried at-loop.invariant.1 (search rules) (search rules)
+    above_none (length a.boundary.now) a.boundary.now a.piece.now (c.loop-tried.tried - 1) c.loop-tried.invariant (omega arith) (omega arith)

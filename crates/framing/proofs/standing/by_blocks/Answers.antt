@@ -13,7 +13,7 @@ returns-then-place-i c =
     let b = a.boundary.now in
     let p = a.piece.now in
     let at-loop = c.loop-i in
-    let at = c.lesser-at in
+    let at = c.min-at in
     let found = c.one_by_one-place in
     let first : First b p at.result (at.result + block_places) found.result = rw found.ensures (first_has b p at.result (at.result + block_places) (omega arith)) in
     first_is b p 0 a.end found.result
@@ -30,7 +30,7 @@ loop-i-preserved-else-place-i c =
     let b = a.boundary.now in
     let p = a.piece.now in
     let at-loop = c.loop-i in
-    let at = c.lesser-at in
+    let at = c.min-at in
     let found = c.one_by_one-place in
     let first : First b p at.result (at.result + block_places) found.result = rw found.ensures (first_has b p at.result (at.result + block_places) (omega arith)) in (
       omega (arith, at.ensures),
@@ -44,7 +44,7 @@ loop-i-preserved c =
     let b = a.boundary.now in
     let p = a.piece.now in
     let at-loop = c.loop-i in
-    let at = c.lesser-at in (
+    let at = c.min-at in (
       omega (arith, at.ensures),
       none_on b p 0 at-loop.i at.result (at.result + block_places) (omega (arith, at.ensures)) at-loop.invariant.1
           (block_free b p at.result (omega arith) (sym c.may_stand.ensures ∙ c.if-may_stand.false)),

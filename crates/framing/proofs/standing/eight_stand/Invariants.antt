@@ -1,11 +1,7 @@
 -- `framing::standing::eight_stand` meets its contract. The invariant of its loop: `same` says whether the first i of the eight are. Assumes nothing.
-use Prim.Native.Nat.{◌-◌, ◌≤◌}
 use mathlib.Core.Path.{◌≡◌}
 use Rattle.laws.specs.Bytes.{same_at}
 use Rattle.framing.proofs.standing.eight_stand.Given as goal
 
 abbrev pub invariant-loop-i : goal.invariant-loop-i
-invariant-loop-i l = (l.i ≤ 8) × (l.same ≡ same_at l.i l.boundary l.from l.piece l.at)
-
-abbrev pub decreases-loop-i : goal.decreases-loop-i
-decreases-loop-i l = 8 - l.i
+invariant-loop-i l = l.same ≡ same_at l.i l.boundary l.from l.piece l.at

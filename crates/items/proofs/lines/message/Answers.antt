@@ -1,20 +1,25 @@
--- `items::lines::message` meets its contract, by what the reader answers. Assumes nothing.
-use mathlib.Core.Path.{sym, ap, ◌∙◌}
-use lib.ListN.{length}
-use Rattle.message.specs.Messages.{answer_said}
-use Rattle.items.specs.Lines.{answer_line, message_line}
+-- The line is that of the reader's answer.
+use Rattle.std.proofs.Common.{ap, sym, ◌∙◌, length, List, ℕ}
+use Rattle.message.specs.Reading.{said}
+use Rattle.texts.specs.Fields.{decimal}
+use Rattle.items.specs.Texts.{dash}
+use Rattle.items.specs.Lines.{answer_line, item_line, message_line}
 use Rattle.items.proofs.lines.message.Goals as goal
 
-pub returns-in-Read : goal.returns-in-Read
+pub returns-in-Ok : goal.returns-in-Ok
 unfolding message_line
-returns-in-Read c = let w = c.args.message.now in record {
-  prefix_len = c.read_line.ensures.prefix_len;
-  written = c.read_line.ensures.written ∙ ap (answer_line c.args.number (length w)) (sym (ap answer_said c.in-Read.is) ∙ c.read-said.ensures);
-}
+returns-in-Ok c =
+    let a = c.args in
+    let size = length a.message.now in
+    c.item.ensures
+    ∙ ap (λ (w : List ℕ). item_line a.number (decimal size) w 0 0) c.name.ensures.named
+    ∙ ap (answer_line a.number size) (sym (ap said c.in-Ok.is) ∙ c.read.ensures)
 
-pub returns-in-Refused : goal.returns-in-Refused
+pub returns-in-Err : goal.returns-in-Err
 unfolding message_line
-returns-in-Refused c = let w = c.args.message.now in record {
-  prefix_len = c.refused_line.ensures.prefix_len;
-  written = c.refused_line.ensures.written ∙ ap (answer_line c.args.number (length w)) (sym (ap answer_said c.in-Refused.is) ∙ c.read-said.ensures);
-}
+returns-in-Err c =
+    let a = c.args in
+    let size = length a.message.now in
+    c.item-in-Err.ensures
+    ∙ ap (λ (n : ℕ). item_line a.number (decimal size) dash n c.in-Err.refusal.place) c.from.ensures
+    ∙ ap (answer_line a.number size) (sym (ap said c.in-Err.is) ∙ c.read.ensures)

@@ -1,22 +1,17 @@
--- `items::start::boundary_end` meets its contract: before each turn no LF stands among the bytes passed (`FirstEnd`). Assumes nothing.
-use borrow.Author.Count.{below_more}
-use borrow.Author.Tests.{ne_eqb}
-use native.Mathlib.Omega.{arith}
-use Rattle.items.proofs.FirstEnd.{first_lf, none_in_17, none_at_all}
+-- The LF that `position` finds is the first (`FirstEnd`).
+use Rattle.std.proofs.Common.{◌≡◌, ◌∙◌, ap, rules, tests, take, eqb, Option, ℕ}
+use Rattle.std.specs.Option.{unwrap_or}
+use Rattle.std.specs.List.{position}
+use Rattle.std.proofs.lemmas.Iterator.{YieldsList-from_slice, YieldsList-from_take}
+use Rattle.std.proofs.lemmas.Iterator.Search.{position_from_yields_List}
+use Rattle.items.specs.Listing.{boundary_end}
+use Rattle.items.proofs.FirstEnd.{first_lf}
 use Rattle.items.proofs.start.boundary_end.Goals as goal
 
-pub loop-i-init : goal.loop-i-init
-loop-i-init c = (omega arith, omega arith, λ j h. absurd (omega arith))
-
-pub returns-then-i-eq-MOST_START : goal.returns-then-i-eq-MOST_START
-returns-then-i-eq-MOST_START c = record { is = none_in_17 _ _ c.loop-i.invariant.2 c.if-i-eq-MOST_START.true; within = λ h. absurd (omega arith) }
-
-pub returns-then-input-i-eq10 : goal.returns-then-input-i-eq10
-returns-then-input-i-eq10 c = record { is = first_lf _ _ c.loop-i.invariant.2 (omega arith) c.if-input-i-eq10.true; within = λ h. omega arith }
-
-pub loop-i-preserved : goal.loop-i-preserved
-loop-i-preserved c =
-    (omega arith, omega arith, below_more _ _ c.loop-i.invariant.2 (ne_eqb _ _ c.if-input-i-eq10.false))
-
-pub returns : goal.returns
-returns c = record { is = none_at_all _ _ c.loop-i.invariant.2 c.loop-i-test.false; within = λ h. absurd (omega arith) }
+pub returns-clause-is : goal.returns-clause-is
+unfolding boundary_end
+returns-clause-is c =
+    let input = c.args.input.now in
+    let found : c.position.result ≡ position (λ b. eqb b 10) (take 17 input) =
+    position_from_yields_List (λ (b : ℕ). eqb b 10) _ _ c.position.result c.position.ensures.ran (YieldsList-from_take 17 (YieldsList-from_slice input (rw c.take.ensures.source c.iter.ensures.rest)) c.take.ensures.count) (λ x b q k. search (rules, tests)) in
+    c.unwrap_or.ensures ∙ ap (λ (o : Option ℕ). unwrap_or o 17) found ∙ first_lf input 17

@@ -1,32 +1,31 @@
--- `items::turns::next` meets its contract: it hands on what the framing and the line answer (`Calls`). Assumes nothing.
-use borrow.Author.Rules.{rules}
-use native.Mathlib.Omega.{arith}
-use Prim.Native.Nat.{◌≤◌}
-use Rattle.framing.specs.Cutting.{link_limit, item_length}
+-- A turn hands on what the framing and the line answer (`Calls`).
+use Rattle.std.proofs.Common.{arith, ap}
+use Rattle.framing.specs.Cutting.{Answer, link_limit, item_length}
 use Rattle.framing.proofs.Bounds.{answer_short, taken_within}
-use Rattle.items.proofs.Calls.{line_is, turn_is}
+use Rattle.items.proofs.Calls.{turn_is, refused_turn_is}
 use Rattle.items.proofs.turns.next.Goals as goal
 
-pub item_line-length-requires : goal.item_line-length-requires
-item_line-length-requires c =
+pub item_line-requires : goal.item_line-requires
+item_line-requires c =
     let a = c.args in
-    let h = a.held in
-    let short : item_length c.gather-said.result.item ≤ 65520 =
-    rw c.gather-said.ensures.answer (answer_short link_limit a.boundary.now a.store.now a.piece.now h.gathered h.matched) in
-    record { in_bounds = search rules; item_in_bounds = omega (arith, short) }
+    let cut = a.held.cut in
+    let short = answer_short link_limit a.boundary.now a.store.now a.piece.now cut.gathered cut.matched in
+    omega (arith, short, ap (λ (x : Answer). item_length x.item) c.in-Ok.ensures.answer)
 
-pub returns : goal.returns
-returns c =
+pub returns-clause-within : goal.returns-clause-within
+returns-clause-within c =
     let a = c.args in
-    let h = a.held in
-    let is = c.gather-said.ensures.answer in
-    let leaves = c.gather-said.ensures.store in
-    let line = c.item_line-length.ensures in
-    record {
-      prefix_len = line.prefix_len;
-      within = rw is (taken_within link_limit a.boundary.now a.store.now a.piece.now h.gathered h.matched);
-      turned =
-          turn_is a.boundary.now a.store.now a.piece.now h is leaves _ _ _ line.prefix_len line.written c.next_number-next.ensures;
-      written = line_is a.boundary.now a.store.now a.piece.now h is leaves line.written;
-      stored = leaves;
-    }
+    let cut = a.held.cut in
+    let within = taken_within link_limit a.boundary.now a.store.now a.piece.now cut.gathered cut.matched in
+    omega (arith, within, ap (λ (x : Answer). x.taken) c.in-Ok.ensures.answer)
+
+pub returns-clause-turned : goal.returns-clause-turned
+returns-clause-turned c =
+    let a = c.args in
+    turn_is a.boundary.now a.store.now a.piece.now a.held c.gather.ensures.store c.in-Ok.said c.in-Ok.ensures.answer c.item_line.ensures
+    c.next_number.ensures
+
+pub returns-in_default-clause-turned : goal.returns-in_default-clause-turned
+returns-in_default-clause-turned c =
+    let a = c.args in
+    refused_turn_is a.boundary.now a.store.now a.piece.now a.held c.in_default.field-0 c.in_default.ensures.answer c.new.ensures

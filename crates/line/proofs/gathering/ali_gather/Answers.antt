@@ -1,8 +1,8 @@
 -- `line::gathering::ali_gather` meets its contract: each `return` is one of `Cases`.
 -- Assumes nothing.
-use native.Mathlib.Omega.{arith}
 use borrow.Author.Tests.{lt-ltb, le-ltb}
-use mathlib.Core.Path.{◌∙◌}
+use mathlib.Core.Path.{refl, ◌∙◌}
+use Rattle.framing.specs.Cutting.{taken_said}
 use Rattle.line.proofs.Cases.{list_short, call_answered}
 use Rattle.line.proofs.gathering.ali_gather.Goals as goal
 
@@ -14,10 +14,9 @@ returns-then-answer-lt-PLACES c =
 
 pub returns : goal.returns
 returns c =
-    let g = c.gather-said in
     let a = c.args in
     let said =
     call_answered a.boundary.now a.store.now a.piece.now a.gathered a.matched a.answer.now
     (le-ltb _ _ c.if-answer-lt-PLACES.false)
-    g.result g.ensures.answer g.new.store g.ensures.store (omega arith) in
-    record { number = said.0; store = said.1.0; list = rw (c.number.ensures, c.length.ensures) at c.write.ensures ∙ said.1.1 }
+    (taken_said c.in-Ok.call) c.in-Ok.ensures.answer c.gather.new.store c.gather.ensures.store refl in
+    record { number = said.0; store = said.1.0; list = rw (c.from.ensures, c.length.ensures) at c.write.ensures ∙ said.1.1 }

@@ -1,15 +1,16 @@
 -- `reader::messages::message_with` meets its contract: the document, the kind by the name of its root, and the message of that kind. Assumes nothing.
-use mathlib.Core.Path.{sym, ◌∙◌, ap}
-use Rattle.elements.specs.Seen.{told_said}
-use Rattle.reader.specs.Roots.{kind_said}
-use Rattle.reader.proofs.Seven.{read_root, message_refused, message_unknown, message_known}
+use mathlib.Core.Path.{◌∙◌}
+use Rattle.message.proofs.Said.{said_is}
+use Rattle.reader.proofs.Seven.{handed_on, read_root, message_refused, message_unknown, message_known}
 use Rattle.reader.proofs.messages.message_with.Goals as goal
 
-pub returns-in-Refused : goal.returns-in-Refused
-returns-in-Refused c = message_refused _ _ _ (sym c.document-told.ensures ∙ ap told_said c.in-Refused.is)
+pub returns-in_err-root : goal.returns-in_err-root
+returns-in_err-root c = handed_on _ _ c.from_residual.ensures.1 ∙ message_refused _ _ _ (said_is c.document.ensures c.in_err-root.was)
 
-pub returns-in-Of : goal.returns-in-Of
-returns-in-Of c = let x = read_root _ _ _ _ (sym c.document-told.ensures ∙ ap told_said c.in-Whole.is) in message_known _ _ _ _ x _ (sym c.root_kind-found.ensures ∙ ap kind_said c.in-Of.is) (c.of_kind.ensures x.root x.reads x.held_is)
+pub returns-in_err-kind : goal.returns-in_err-kind
+returns-in_err-kind c = handed_on _ _ c.from_residual-in_err-kind.ensures.1 ∙ message_unknown _ _ _ _ (read_root _ _ _ _ (said_is c.document.ensures c.in_ok-root.was)) (said_is c.root_kind.ensures c.in_err-kind.was)
 
-pub returns-in-Unknown : goal.returns-in-Unknown
-returns-in-Unknown c = message_unknown _ _ _ _ (read_root _ _ _ _ (sym c.document-told.ensures ∙ ap told_said c.in-Whole.is)) (sym c.root_kind-found.ensures ∙ ap kind_said c.in-Unknown.is)
+pub returns : goal.returns
+returns c =
+    let x = read_root _ _ _ _ (said_is c.document.ensures c.in_ok-root.was) in
+    message_known _ _ _ _ x _ (said_is c.root_kind.ensures c.in_ok-kind.was) (c.of_kind.ensures x.root x.reads x.held_is)

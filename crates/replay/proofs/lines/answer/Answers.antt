@@ -1,16 +1,12 @@
--- `replay::lines::answer` meets its contract: by the refusal. Assumes nothing.
-use borrow.Author.Tests.{eq-eqb, ne_eqb}
+-- By the answer: an accepted call has refusal 0, and a refused one another.
 use Rattle.replay.specs.Lines.{answer_lines}
+use Rattle.replay.proofs.Turns.{refused_by_a_number}
 use Rattle.replay.proofs.lines.answer.Goals as goal
 
-pub returns-then-refusal-ne0 : goal.returns-then-refusal-ne0
+pub returns-in-Ok : goal.returns-in-Ok
 unfolding answer_lines
-returns-then-refusal-ne0 c =
-    let said = c.refused.ensures in
-    record { prefix_len = said.prefix_len; written = rw (ne_eqb _ _ c.if-refusal-ne0.true) said.written }
+returns-in-Ok c = rw c.in-Ok.is c.events.ensures
 
-pub returns : goal.returns
+pub returns-in-Err : goal.returns-in-Err
 unfolding answer_lines
-returns c =
-    let said = c.put_events.ensures in
-    record { prefix_len = said.prefix_len; written = rw (eq-eqb _ _ c.if-refusal-ne0.false) said.written }
+returns-in-Err c = rw (c.in-Err.is, refused_by_a_number c.in-Err.refusal, ← c.from.ensures) c.refused.ensures

@@ -1,21 +1,14 @@
--- `replay::lines::bad` meets its contract: its three fields stand one behind the other (`Written`). Assumes nothing.
-use native.Mathlib.Omega.{arith}
-use Rattle.texts.specs.Fields.{space, line_end, field, decimal}
+-- The three fields of the line have room (`texts`, `Fields`).
+use Rattle.std.proofs.Common.{arith, ◌∙◌, append_assoc}
 use Rattle.message.specs.Words.{codes}
+use Rattle.texts.specs.Fields.{space, line_end}
+use Rattle.texts.proofs.Fields.{holds_nothing, holds_text, holds_number}
 use Rattle.replay.specs.Lines.{bad_line}
-use Rattle.replay.proofs.Written.{put_field, put_more, put_whole, number_short}
 use Rattle.replay.proofs.lines.bad.Goals as goal
 
 pub returns : goal.returns
 unfolding bad_line
 returns c =
-    let a = c.args in
-    let pre = c.requires in
-    let first = c.put-after_word in
-    let second = c.put_number-after_number in
-    let third = c.put in
-    let short = number_short a.line space (omega (arith, c.ranges.line)) in
-    let p = put_field a.out.now 0 (field (codes "line") space) (omega arith) first.ensures in
-    let q = put_field first.new.out first.result (field (decimal a.line) space) (omega arith) second.ensures in
-    let r = put_field second.new.out second.result (field (codes "bad") line_end) (omega arith) third.ensures in
-    put_whole (put_more _ _ p (put_more _ _ q r))
+    let word = holds_text 4096 (holds_nothing c.new-line.ensures) space 4 (codes "line") c.put.ensures (omega arith) (omega arith) in
+    let number = holds_number 4096 word space c.args.number (omega arith) c.put_number.ensures (omega arith) in
+    (holds_text 4096 number line_end 3 (codes "bad") c.put-2.ensures (omega arith) (omega arith)).is ∙ simp append_assoc

@@ -1,26 +1,17 @@
--- `replay::lines::put_event` meets its contract: its four fields stand one behind the other (`Written`). Assumes nothing.
-use native.Mathlib.Omega.{arith}
-use Rattle.texts.specs.Fields.{space, line_end, field, decimal}
+-- The four fields of the event have room (`texts`, `Fields`).
+use Rattle.std.proofs.Common.{arith, ◌∙◌, append_assoc, length, ap}
+use Rattle.texts.specs.Fields.{space, line_end}
+use Rattle.texts.proofs.Fields.{holds_itself, holds_number}
 use Rattle.replay.specs.Lines.{event_line}
-use Rattle.replay.proofs.Written.{put_field, put_more, number_short}
 use Rattle.replay.proofs.lines.put_event.Goals as goal
 
 pub returns : goal.returns
 unfolding event_line
 returns c =
-    let a = c.args in
-    let e = a.e in
+    let e = c.args.e in
     let pre = c.requires in
-    let first = c.put_number-after_call in
-    let second = c.put_number-after_code in
-    let third = c.put_number-after_number in
-    let fourth = c.put_number in
-    let call = number_short a.call space (omega (arith, c.ranges.call)) in
-    let code = number_short e.code space (omega arith) in
-    let number = number_short e.number space (omega arith) in
-    let detail = number_short e.detail line_end (omega arith) in
-    let p = put_field a.out.now a.at (field (decimal a.call) space) (omega arith) first.ensures in
-    let q = put_field first.new.out first.result (field (decimal e.code) space) (omega arith) second.ensures in
-    let r = put_field second.new.out second.result (field (decimal e.number) space) (omega arith) third.ensures in
-    let t = put_field third.new.out third.result (field (decimal e.detail) line_end) (omega arith) fourth.ensures in
-    record { written = (put_more _ _ p (put_more _ _ q (put_more _ _ r t))).written; ends = omega arith }
+    let call = holds_number 4096 (holds_itself c.args.line.now) space c.args.call (omega arith) c.put_number.ensures (omega arith) in
+    let code = holds_number 4096 call space e.code (omega arith) (rw c.from.ensures at c.put_number-2.ensures) (omega arith) in
+    let number = holds_number 4096 code space e.number (omega arith) (rw c.from-2.ensures at c.put_number-3.ensures) (omega arith) in
+    let all = holds_number 4096 number line_end e.detail (omega arith) (rw c.from-3.ensures at c.put_number-4.ensures) (omega arith) in
+    record { written = all.is ∙ simp append_assoc; ends = omega (arith, ap length all.is, all.short) }

@@ -1,22 +1,14 @@
--- `replay::lines::refused` meets its contract: its three fields stand one behind the other (`Written`). Assumes nothing.
-use native.Mathlib.Omega.{arith}
-use Rattle.texts.specs.Fields.{space, line_end, field, decimal}
+-- The three fields of the line have room (`texts`, `Fields`).
+use Rattle.std.proofs.Common.{arith, ◌∙◌, append_assoc}
 use Rattle.message.specs.Words.{codes}
+use Rattle.texts.specs.Fields.{space, line_end}
+use Rattle.texts.proofs.Fields.{holds_nothing, holds_text, holds_number}
 use Rattle.replay.specs.Lines.{refused_line}
-use Rattle.replay.proofs.Written.{put_field, put_more, put_whole, number_short}
 use Rattle.replay.proofs.lines.refused.Goals as goal
 
 pub returns : goal.returns
 unfolding refused_line
 returns c =
-    let a = c.args in
-    let pre = c.requires in
-    let first = c.put_number-after_call in
-    let second = c.put-after_word in
-    let third = c.put_number in
-    let call = number_short a.call space (omega (arith, c.ranges.call)) in
-    let refusal = number_short a.refusal line_end (omega (arith, c.ranges.refusal)) in
-    let p = put_field a.out.now 0 (field (decimal a.call) space) (omega arith) first.ensures in
-    let q = put_field first.new.out first.result (field (codes "refused") space) (omega arith) second.ensures in
-    let r = put_field second.new.out second.result (field (decimal a.refusal) line_end) (omega arith) third.ensures in
-    put_whole (put_more _ _ p (put_more _ _ q r))
+    let call = holds_number 4096 (holds_nothing c.new-line.ensures) space c.args.call (omega arith) c.put_number.ensures (omega arith) in
+    let word = holds_text 4096 call space 7 (codes "refused") c.put.ensures (omega arith) (omega arith) in
+    (holds_number 4096 word line_end c.args.refusal (omega arith) (rw c.from.ensures at c.put_number-2.ensures) (omega arith)).is ∙ simp append_assoc

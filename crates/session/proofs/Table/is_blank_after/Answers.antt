@@ -1,47 +1,18 @@
--- `session::Table::is_blank_after` meets its contract: the rows that are left are blank just if all from the count on are. Assumes
--- nothing.
-use mathlib.Core.Path.{◌≡◌, refl, sym, ◌∙◌}
+-- `session::Table::is_blank_after` meets its contract: it asks of each row what the definition asks. Assumes nothing.
+use borrow.Author.Rules.{rules}
+use mathlib.Core.Path.{refl, ap, ◌∙◌}
+use Prim.Native.Nat.{◌-◌}
 use native.Mathlib.Omega.{arith}
-use lib.ListN.{length}
+use lib.ListN.{take, drop, length-drop}
+use lib.Seq.{take_all}
+use Rattle.std.proofs.lemmas.List.Recursion.{and_is}
+use Rattle.conduct.specs.Lists.{all}
 use Rattle.session.specs.Rows.{no_push, is_blank}
-use Rattle.session.proofs.Rows.{unmapped}
-use Rattle.conduct.proofs.Loops.{all_not, all_later, all_end}
 use Rattle.session.proofs.Table.is_blank_after.Goals as goal
-
-pub loop-i-init : goal.loop-i-init
-loop-i-init c = refl
-
-pub offset_bounds-rows-i : goal.offset_bounds-rows-i
-offset_bounds-rows-i c = omega arith
-
-pub bounds-rows-i : goal.bounds-rows-i
-bounds-rows-i c = omega arith
-
-pub returns-then-not-is_blank : goal.returns-then-not-is_blank
-returns-then-not-is_blank c =
-    let l = c.loop-i in
-    let rows = c.args.self.rows in
-    let size : length rows ≡ 32 = search unmapped in
-    let other = sym c.is_blank.ensures ∙ c.if-not-is_blank.true in
-    sym (l.invariant ∙ all_not is_blank rows l.i no_push (omega arith) other)
-
-pub overflow_add-i : goal.overflow_add-i
-overflow_add-i c = omega arith
-
-pub loop-i-smaller : goal.loop-i-smaller
-loop-i-smaller c = omega arith
-
-pub loop-i-preserved : goal.loop-i-preserved
-loop-i-preserved c =
-    let l = c.loop-i in
-    let rows = c.args.self.rows in
-    let size : length rows ≡ 32 = search unmapped in
-    let blank = sym c.is_blank.ensures ∙ c.if-not-is_blank.false in
-    l.invariant ∙ all_later is_blank rows l.i no_push (omega arith) blank
 
 pub returns : goal.returns
 returns c =
-    let l = c.loop-i in
-    let rows = c.args.self.rows in
-    let size : length rows ≡ 32 = search unmapped in
-    sym (l.invariant ∙ all_end is_blank rows l.i (omega arith))
+    let t = c.args.self.now in
+    let behind = drop t.count t.rows in
+    and_is (all is_blank) is_blank refl (λ _ _. refl) (take (32 - t.count) behind) no_push c.all.result (search rules) (search rules)
+    ∙ ap (all is_blank) (take_all (32 - t.count) behind (simp length-drop (omega arith)))

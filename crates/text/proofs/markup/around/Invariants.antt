@@ -8,8 +8,8 @@ use Rattle.message.proofs.Loops.{Left}
 use Rattle.message.proofs.MarkupLoop.{around as loop}
 use Rattle.text.proofs.markup.around.Given as goal
 
-abbrev pub invariant-loop-r : goal.invariant-loop-r
-invariant-loop-r l = Left (loop (class_in l.table) l.s) (around_at (class_in l.table) (suc (length l.s)) l.s l.at) l.i
+abbrev pub invariant-loop-stop : goal.invariant-loop-stop
+invariant-loop-stop l = Left (loop (class_in l.table) l.s) (around_at (class_in l.table) (suc (length l.s)) l.s l.at) l.stop
 
-abbrev pub decreases-loop-r : goal.decreases-loop-r
-decreases-loop-r l = length l.s - l.i
+abbrev pub decreases-loop-stop : goal.decreases-loop-stop
+decreases-loop-stop l = length l.s - l.stop

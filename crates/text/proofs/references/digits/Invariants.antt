@@ -5,8 +5,8 @@ use Rattle.message.specs.Characters.{digits_at}
 use Rattle.message.proofs.Loops.{Left, numbers}
 use Rattle.text.proofs.references.digits.Given as goal
 
-abbrev pub invariant-loop-more : goal.invariant-loop-more
-invariant-loop-more l = (l.number ≤ 1114111) × Left (numbers l.base l.s) (digits_at (suc (length l.s)) l.base 0 l.s l.at) (l.number, l.i)
+abbrev pub invariant-loop-counts : goal.invariant-loop-counts
+invariant-loop-counts l = (l.code ≤ 1114111) × Left (numbers l.base l.s) (digits_at (suc (length l.s)) l.base 0 l.s l.at) (l.code, l.end)
 
-abbrev pub decreases-loop-more : goal.decreases-loop-more
-decreases-loop-more l = length l.s - l.i
+abbrev pub decreases-loop-counts : goal.decreases-loop-counts
+decreases-loop-counts l = length l.s - l.end

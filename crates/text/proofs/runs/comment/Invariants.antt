@@ -6,8 +6,8 @@ use Rattle.message.specs.Text.{comment_at}
 use Rattle.message.proofs.Loops.{Left, comments}
 use Rattle.text.proofs.runs.comment.Given as goal
 
-abbrev pub invariant-loop-r : goal.invariant-loop-r
-invariant-loop-r l = Left (comments (class_in l.table) l.s) (comment_at (class_in l.table) (length l.s) l.s l.at) l.i
+abbrev pub invariant-loop-stop : goal.invariant-loop-stop
+invariant-loop-stop l = Left (comments (class_in l.table) l.s) (comment_at (class_in l.table) (length l.s) l.s l.at) l.stop
 
-abbrev pub decreases-loop-r : goal.decreases-loop-r
-decreases-loop-r l = length l.s - l.i
+abbrev pub decreases-loop-stop : goal.decreases-loop-stop
+decreases-loop-stop l = length l.s - l.stop

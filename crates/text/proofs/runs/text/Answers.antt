@@ -2,7 +2,7 @@
 use mathlib.Core.Path.{refl, sym, subst⁻¹, ◌∙◌}
 use native.Mathlib.Omega.{arith}
 use Rattle.message.proofs.Laws.{went, cond_true, cond_false, ends_after}
-use Rattle.scan.proofs.Said.{place_is, handed}
+use Rattle.message.proofs.Said.{said_is, exited}
 use Rattle.message.proofs.Progress.{beyond_plain_on}
 use Rattle.message.proofs.Loops.{Left, left_first, left_on, left_done, texts}
 use Rattle.text.proofs.runs.text.Goals as goal
@@ -15,19 +15,19 @@ returns-then-is_at c =
     let left = subst⁻¹ (Left (texts _ _) _) c.plain_end-stop.ensures c.loop-at.invariant in
     left_done (texts _ _) (λ next. cond_true _ (sym c.is_at.ensures ∙ c.if-is_at.true)) left
 
-pub returns-in_default : goal.returns-in_default
-returns-in_default c =
+pub returns-in_err-i : goal.returns-in_err-i
+returns-in_err-i c =
     let left = subst⁻¹ (Left (texts _ _) _) c.plain_end-stop.ensures c.loop-at.invariant in
     left_done (texts _ _) (λ next.
-    handed next c.beyond_plain-r.ensures c.in_default.is ∙ cond_false _ (sym c.is_at.ensures ∙ c.if-is_at.false)) left
+    exited next c.from_residual.result c.beyond_plain.ensures c.in_err-i.was c.from_residual.ensures.1 ∙ cond_false _ (sym c.is_at.ensures ∙ c.if-is_at.false)) left
 
 pub loop-at-smaller : goal.loop-at-smaller
 loop-at-smaller c =
-    omega (arith, beyond_plain_on _ _ _ _ (place_is c.beyond_plain-r.ensures c.in-Whole.is), ends_after _ _ _ c.plain_end-stop.ensures)
+    omega (arith, beyond_plain_on _ _ _ _ (said_is c.beyond_plain.ensures c.in_ok-i.was), ends_after _ _ _ c.plain_end-stop.ensures)
 
 pub loop-at-preserved : goal.loop-at-preserved
 loop-at-preserved c =
-    let read = place_is c.beyond_plain-r.ensures c.in-Whole.is in
+    let read = said_is c.beyond_plain.ensures c.in_ok-i.was in
     let left = subst⁻¹ (Left (texts _ _) _) c.plain_end-stop.ensures c.loop-at.invariant in
     left_on (texts _ _) _ refl (beyond_plain_on _ _ _ _ read).0
     (λ next. went next read ∙ cond_false _ (sym c.is_at.ensures ∙ c.if-is_at.false)) left

@@ -1,46 +1,36 @@
--- `values::meaning::decimal` meets its contract: from each place and number that the loop comes to, the letters left make of the number what all of
--- them make of 0. The number stays below 2^32, so the next one fits. Assumes nothing.
-use mathlib.Core.Path.{refl}
+-- `values::meaning::decimal` meets its contract: a letter that is refused or no digit, and a number that is too large, decide that there is none.
+-- Assumes nothing.
+use Prim.Native.Nat.{◌+◌, ◌-◌, ◌*◌, ◌≤◌}
+use mathlib.Core.Path.{◌≡◌}
 use native.Mathlib.Omega.{arith}
-use lib.ListN.{length}
-use Rattle.scan.proofs.Said.{character_is}
 use Rattle.message.proofs.Laws.{between_below, between_above}
 use Rattle.message.proofs.Letters.{attribute_letter_on}
-use Rattle.values.proofs.Letters.{attribute_goes, attribute_stops, attribute_ends, counted_refused, counted_all, counted_none, counted_digit}
+use Rattle.scan.proofs.Said.{character_is}
+use Rattle.values.proofs.Letters.{attribute_goes, attribute_stops, attribute_ends, counted_refused, counted_all, counted_none, counted_large, counted_digit}
 use Rattle.values.proofs.meaning.decimal.Goals as goal
-
-pub loop-i-init : goal.loop-i-init
-loop-i-init c = (omega arith, record { fuel = length c.args.s.now; enough = omega arith; comes = refl })
+use Rattle.values.proofs.meaning.decimal.Goals.{then-c-lt48-via-then-c-lt48, then-c-lt48-via-else-c-lt48+then-c-gt57}
 
 pub returns-in_default : goal.returns-in_default
-returns-in_default c = counted_refused c.loop-i.invariant.1 (attribute_stops _ _ _ _ c.loop-i-test.true (character_is c.attribute_letter-c.ensures c.in_default.is))
+returns-in_default c = counted_refused c.loop-i.invariant.1 (attribute_stops _ _ _ _ c.loop-i-test.true (character_is c.attribute_letter.ensures c.in_default.is))
 
-pub returns-then-code-lt48 : goal.returns-then-code-lt48
-returns-then-code-lt48 c = counted_none c.loop-i.invariant.1 _ _ (attribute_goes _ _ _ _ c.loop-i-test.true (character_is c.attribute_letter-c.ensures c.in-Whole.is)) (between_below 48 57 _ c.if-code-lt48.true)
+pub returns-then-c-lt48 : goal.returns-then-c-lt48
+returns-then-c-lt48 c = counted_none c.loop-i.invariant.1 _ _ (attribute_goes _ _ _ _ c.loop-i-test.true (character_is c.attribute_letter.ensures c.in-Ok.is)) (elim c.then-c-lt48.branch [ then-c-lt48-via-then-c-lt48 w ↦ between_below 48 57 _ w.if-c-lt48.true | then-c-lt48-via-else-c-lt48+then-c-gt57 w ↦ between_above 48 57 _ w.if-c-gt57.true ])
 
-pub returns-then-code-gt57 : goal.returns-then-code-gt57
-returns-then-code-gt57 c = counted_none c.loop-i.invariant.1 _ _ (attribute_goes _ _ _ _ c.loop-i-test.true (character_is c.attribute_letter-c.ensures c.in-Whole.is)) (between_above 48 57 _ c.if-code-gt57.true)
+pub returns-in_err-checked_mul : goal.returns-in_err-checked_mul
+returns-in_err-checked_mul c = rw c.from_residual.ensures (counted_large c.loop-i.invariant.1 _ _ (attribute_goes _ _ _ _ c.loop-i-test.true (character_is c.attribute_letter.ensures c.in-Ok.is)) c.if-c-lt48.false c.if-c-gt57.false (omega arith))
 
-pub overflow_mul-number : goal.overflow_mul-number
-overflow_mul-number c = omega arith
-
-pub overflow_cast-number : goal.overflow_cast-number
-overflow_cast-number c = omega arith
-
-pub overflow_add-number : goal.overflow_add-number
-overflow_add-number c = omega arith
+pub returns-in_err-number : goal.returns-in_err-number
+returns-in_err-number c = rw c.from_residual-in_err-number.ensures (counted_large c.loop-i.invariant.1 _ _ (attribute_goes _ _ _ _ c.loop-i-test.true (character_is c.attribute_letter.ensures c.in-Ok.is)) c.if-c-lt48.false c.if-c-gt57.false (omega arith))
 
 pub loop-i-smaller : goal.loop-i-smaller
-loop-i-smaller c = omega (arith, attribute_letter_on _ _ _ (character_is c.attribute_letter-c.ensures c.in-Whole.is))
+loop-i-smaller c = omega (arith, attribute_letter_on _ _ _ (character_is c.attribute_letter.ensures c.in-Ok.is))
 
 pub loop-i-preserved : goal.loop-i-preserved
-loop-i-preserved c = (
-  omega arith,
-  counted_digit c.loop-i.invariant.1 _ _ (attribute_goes _ _ _ _ c.loop-i-test.true (character_is c.attribute_letter-c.ensures c.in-Whole.is)) c.if-code-lt48.false c.if-code-gt57.false (omega arith) (attribute_letter_on _ _ _ (character_is c.attribute_letter-c.ensures c.in-Whole.is)),
-)
-
-pub overflow_cast-result : goal.overflow_cast-result
-overflow_cast-result c = omega arith
+loop-i-preserved c =
+    let read = character_is c.attribute_letter.ensures c.in-Ok.is in
+    let next : c.loop-i.number * 10 + (c.in-Ok.c.code - 48) ≡ c.in_ok-number.number = omega arith in
+    let small : c.in_ok-number.number ≤ 4294967295 = omega arith in
+    (small, rw (← next) (counted_digit c.loop-i.invariant.1 _ _ (attribute_goes _ _ _ _ c.loop-i-test.true read) c.if-c-lt48.false c.if-c-gt57.false (omega arith) (attribute_letter_on _ _ _ read)))
 
 pub returns : goal.returns
 returns c = counted_all c.loop-i.invariant.1 (attribute_ends _ _ _ _ c.loop-i-test.false)
