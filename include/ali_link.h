@@ -5,7 +5,8 @@
  *   - no pointer is null, also where its length is 0;
  *   - each is aligned for its type and valid for as many elements as the length behind it says;
  *   - what is lent to be written (store, answer) overlaps nothing else that is lent to the same call.
- * Nothing is kept after a call returns, and nothing is allocated.
+ * Nothing is kept after a call returns, and nothing is allocated. The archive calls nothing outside it, so that it
+ * needs no C library.
  *
  * To build a program over it, at the top of the repository:
  *   (cd crates/line && rt lib)

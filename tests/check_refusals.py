@@ -6,7 +6,7 @@ the check must refuse NAME there for a reason of its own, and not because someth
 do with each other may share a file, each after a line 'edit: NAME': a proof looks at the function's own code and at the contracts of what it calls, so
 one check tries them all. An edit whose file's name begins both_ or stream_ leaves code and contracts in agreement, so nothing of the code may be
 refused for a reason of its own. And no edit may only have made a proof unfit for the code's shape.
-`rt` says of a refused edit the first reason alone, so each file of edits is tried here once more (refused.py), over what `rt all check` keeps.
+`rt` says of a refused edit the first reason alone, so each file of edits is tried here once more (refused.py), over what `rt check` of its crate keeps.
 Words after the command are crates: then the edits of these alone are tried.
 The last line is 'N passed, M failed'; the exit status is 0 only if nothing failed.
 """

@@ -12,7 +12,9 @@ FUNCTION = re.compile(
     r'([^\n{]*(?:\n\1(?: [^\n]*|\)[^\n{]*))*))(?: |\n\1)\{([^\n]*(?=\}$)|\n.*?(?=^\1\}))',
     re.MULTILINE | re.DOTALL)
 IMPLEMENTATION = re.compile(r"^impl(?:<[^>]*>)? (?:\w+ for )?(\w+)", re.MULTILINE)
-CONVERSION = re.compile(r"^impl From<(\w+)> for u32 \{\n+ +ghost from_gives = \{ λ \w+ (\w+)\. (.*?) \};", re.MULTILINE)
+CONVERSION = re.compile(r"^( *)impl(?:<[^\n]*?>)? From<([^\n]+?)> for ([^\n{]+?) \{(.*?)^\1\}", re.MULTILINE | re.DOTALL)
+GIVES = re.compile(r"^ +ghost\s+from_gives\s*=\s*\{\s*λ\s+\w+\s+(\w+)\.\s+(.*?)\s*\}\s*;", re.MULTILINE | re.DOTALL)
+PRIVATE = re.compile(r"^(?:pub\(crate\) )?(?:struct|enum|type) (\w+)", re.MULTILINE)
 REQUIRES = re.compile(r"^ +requires\b", re.MULTILINE)
 ENSURES = re.compile(r"^ +ensures (?:\w+ )?\{((?:[^{}]|\{(?:[^{}]|\{[^{}]*\})*\})*)\}", re.MULTILINE)
 RESULT = re.compile(r"(?<![\w.])result\b")
@@ -60,12 +62,13 @@ def owner_at(code, place, indented):
 
 
 def conversion_at(code, place):
-    """The type that the `from` at a place makes a number of, and the equation that its implementation states; nothing of any other function."""
-    found = [found for found in CONVERSION.finditer(code) if found.start() < place]
-    if not found or re.search(r"^\}", code[found[-1].start() : place], re.MULTILINE):
-        return "", []
-    converted, result, equation = found[-1].groups()
-    return converted, [flat(re.sub(r"\b%s\b" % result, "result", equation))]
+    """The type that a `from` at the place converts, and the equation that its implementation states, if any; nothing of a type that the file keeps to itself."""
+    for found in CONVERSION.finditer(code):
+        _, converted, made, body = found.groups()
+        if found.start() < place < found.end() and not set(re.findall(r"\w+", converted + " " + made)) & set(PRIVATE.findall(code)):
+            gives = GIVES.search(body)
+            return converted, [flat(re.sub(r"\b%s\b" % gives.group(1), "result", gives.group(2)))] if gives else []
+    return "", []
 
 
 def functions_of(crate, top=TOP):

@@ -19,7 +19,7 @@ PAGE = os.path.join(TOP, "docs", "FUNCTIONS.md")
 HEAD = """# Every public function and what determines it
 
 `python3 tests/list_functions.py --write` makes this page from the sources, and the gate holds it to them ([list_functions.py](../tests/list_functions.py)).
-No function here has a `requires`, but for those of scan that are handed a test, which ask that it may be called. An equation is of the `result` or of what is left of something that was lent (`x.new`), and has on
+No function here has a `requires`. An equation is of the `result` or of what is left of something that was lent (`x.new`), and has on
 its other side only what went in, so by one law, [`one_answer`](../crates/laws/proofs/OneAnswer.antt), no second result fits; the law in the last column says so of
 the function itself, in the words of its contract ([check_answers.py](../tests/check_answers.py)). An equation has the names of its source file; the column beside it has
 the definitions. Functions that are not determined stand in [EXCEPTIONS](EXCEPTIONS.md).
@@ -39,7 +39,8 @@ def row_of(function):
     law = name_of_law(function, laws_of(function.crate))
     short = "::".join(part for part in (function.module, function.owner, function.name) if part)
     if function.name == "from":
-        short = "u32::from(%s)" % function.owner
+        made = re.search(r"-> (\w+)", function.contract)
+        short = "%s::from(%s)" % (made.group(1) if made else "Self", function.owner)
     return "| [%s](../%s) | %s | %s | [`%s`](../crates/%s/proofs/OneAnswer.antt) |" % (
         short, function.source, equations, definitions_of(function), law, function.crate)
 

@@ -41,8 +41,9 @@ impl Names {
     fn new() -> Self
         ensures { result ≡ [] }
     {
+        // Not zeros: with the count they would be written by a call of `memset`, and the archive for C calls nothing outside it.
         Names {
-            spans: [Span { from: 0, to: 0 }; 16],
+            spans: [Span { from: 1, to: 1 }; 16],
             count: 0,
         }
     }
@@ -73,10 +74,11 @@ impl Names {
 }
 
 // `/` or `>` stands at the place.
+#[tactic(auto, unfolding(message::specs::Reading::has))]
 fn ends_tag(s: &[u8], at: usize) -> bool
     ensures { result ≡ has ends_tag s.now at }
 {
-    bytes::has(s, at, |b| b == b'/' || b == b'>')
+    matches!(s.get(at), Some(b'/' | b'>'))
 }
 
 // Reads `=` and the value behind a name.

@@ -13,11 +13,12 @@ pub(crate) fn kept(limit: u32, size: usize, gathered: u32, taken: usize) -> usiz
 }
 
 // Copies the first `count` of `bytes` into `store` from place `at` on, which may lie past its end where there are none to copy.
+// No `copy_from_slice`, which becomes a call of `memmove`: the archive for C calls nothing outside it.
 pub(crate) fn lay(store: &mut [u8], at: usize, bytes: &[u8], count: usize)
     requires { (count ≤ length store.old - at) × (count ≤ length bytes.now) }
     ensures { store.new ≡ paste store.old at bytes.now count }
 {
-    if count != 0 {
-        store[at..at + count].copy_from_slice(&bytes[..count]);
+    for i in 0..count {
+        store[at + i] = bytes[i];
     }
 }

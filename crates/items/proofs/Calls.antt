@@ -12,14 +12,24 @@ use Rattle.items.specs.Lines.{line_after, number_after}
 use Rattle.items.specs.Turns.{line_of_turn, turn_of}
 
 module _ (b s p : List ℕ) (h : Held) where
-  pub turn_is : {left : List ℕ} → left ≡ store_after link_limit b s p h.cut.gathered h.cut.matched
+  pub turn_is : (t : Taken) → said h.cut (Ok t) ≡ answer_of link_limit b s p h.cut.gathered h.cut.matched
+      → {next : ℕ} → next ≡ number_after h.number t.item
+      → ◌≡◌ {A = Turn} (record { taken = t.taken; held = record { cut = t.held; number = next } }) (turn_of b s p h)
+  unfolding turn_of
+  turn_is t is after = rw (after, ← is)
+
+  pub line_is : {left : List ℕ} → left ≡ store_after link_limit b s p h.cut.gathered h.cut.matched
       → (t : Taken) → said h.cut (Ok t) ≡ answer_of link_limit b s p h.cut.gathered h.cut.matched
-      → {line : List ℕ} → line ≡ line_after h.number t.item left → {next : ℕ} → next ≡ number_after h.number t.item
-      → ◌≡◌ {A = Turn} (record { taken = t.taken; line = line; held = record { cut = t.held; number = next } }) (turn_of b s p h)
-  unfolding line_of_turn turn_of
-  turn_is leaves t is line after = rw (line, after, leaves, ← is)
+      → {line : List ℕ} → line ≡ line_after h.number t.item left → line ≡ line_of_turn b s p h
+  unfolding line_of_turn
+  line_is leaves t is line = rw (line, leaves, ← is)
 
   pub refused_turn_is : (r : Refusal) → said h.cut (Err r) ≡ answer_of link_limit b s p h.cut.gathered h.cut.matched
-      → {line : List ℕ} → line ≡ [] → ◌≡◌ {A = Turn} (record { taken = 0; line = line; held = h }) (turn_of b s p h)
-  unfolding line_of_turn turn_of line_after
-  refused_turn_is r is none = rw (none, ← is)
+      → ◌≡◌ {A = Turn} (record { taken = 0; held = h }) (turn_of b s p h)
+  unfolding turn_of
+  refused_turn_is r is = rw (← is)
+
+  pub refused_line_is : (r : Refusal) → said h.cut (Err r) ≡ answer_of link_limit b s p h.cut.gathered h.cut.matched
+      → {line : List ℕ} → line ≡ [] → line ≡ line_of_turn b s p h
+  unfolding line_of_turn line_after
+  refused_line_is r is none = rw (none, ← is)

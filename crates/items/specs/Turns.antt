@@ -15,13 +15,12 @@ unfoldable pub line_of_turn : List ℕ → List ℕ → List ℕ → Held → Li
 line_of_turn b s p h =
     line_after h.number (answer_of link_limit b s p h.cut.gathered h.cut.matched).item (store_after link_limit b s p h.cut.gathered h.cut.matched)
 
--- the bytes taken, the line, and what is held then
+-- the bytes taken, and what is held then
 unfoldable pub turn_of : List ℕ → List ℕ → List ℕ → Held → Turn
 turn_of b s p h =
     let answer = answer_of link_limit b s p h.cut.gathered h.cut.matched in
     record {
       taken = answer.taken;
-      line = line_of_turn b s p h;
       held = record { cut = record { gathered = answer.gathered; matched = answer.matched }; number = number_after h.number answer.item };
     }
 

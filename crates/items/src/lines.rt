@@ -66,34 +66,34 @@ fn put_count(line: &mut Line, bytes: Option<usize>)
 }
 
 // The line of an item: its number, its bytes, its kind, and its refusal and place, which are 0 and 0 where there is none.
-fn item(number: u64, bytes: Option<usize>, kind: &[u8], refusal: u32, place: usize) -> Line
+fn item(line: &mut Line, number: u64, bytes: Option<usize>, kind: &[u8], refusal: u32, place: usize)
     requires { length kind.now ≤ 19 }
-    ensures { result ≡ item_line number (counted bytes) kind.now refusal place }
+    ensures { line.new ≡ item_line number (counted bytes) kind.now refusal place }
 {
-    let mut line = Line::new();
+    line.clear();
     line.put_number(number, SPACE);
-    put_count(&mut line, bytes);
+    put_count(line, bytes);
     line.put(kind, SPACE);
     line.put_number(u64::from(refusal), SPACE);
     line.put_number(place as u64, LINE_END);
-    line
 }
 
 #[tactic(auto, unfolding(crate::specs::Lines::too_long_line))]
-pub(crate) fn too_long(number: u64) -> Line
-    ensures { result ≡ too_long_line number }
+pub(crate) fn too_long(line: &mut Line, number: u64)
+    ensures { line.new ≡ too_long_line number }
 {
-    item(number, None, b"-", 8, 0)
+    item(line, number, None, b"-", 8, 0);
 }
 
 // A message, by what the reader says of it.
-pub(crate) fn message(number: u64, message: &[u8]) -> Line
-    ensures { result ≡ message_line number message.now }
+pub(crate) fn message(line: &mut Line, number: u64, message: &[u8])
+    ensures { line.new ≡ message_line number message.now }
 {
     let bytes = Some(message.len());
     match reader::read(message) {
-        Ok(read) => item(number, bytes, name(read.kind), 0, 0),
+        Ok(read) => item(line, number, bytes, name(read.kind), 0, 0),
         Err(refusal) => item(
+            line,
             number,
             bytes,
             b"-",

@@ -10,17 +10,19 @@ mod turns;
 
 ghost use Rattle.std.specs.Prelude.{◌≤◌, length, IfOk};
 
+use lines::Line;
 use start::MOST_START;
 use std::io::{self, ErrorKind, Read, Write};
 use turns::Held;
 
-// A listing behind its header: where it goes, its boundary, the store of the framing, and what is held.
+// A listing behind its header: where it goes, its boundary, the store of the framing, what is held, and the line that each turn writes anew.
 #[derive(Drop)]
 struct Listing<'a, W> {
     output: &'a mut W,
     boundary: &'a [u8],
     store: &'a mut [u8; 65536],
     held: Held,
+    line: Line,
 }
 
 impl<'a, W: Write> Listing<'a, W> {
@@ -31,9 +33,9 @@ impl<'a, W: Write> Listing<'a, W> {
         if self.held.number == u64::MAX {
             return Err(io::Error::from(ErrorKind::Other));
         }
-        let turn = turns::next(self.boundary, self.store, piece, self.held);
+        let turn = turns::next(self.boundary, self.store, piece, self.held, &mut self.line);
         self.held = turn.held;
-        self.output.write_all(turn.line.as_bytes())?;
+        self.output.write_all(self.line.as_bytes())?;
         Ok(turn.taken)
     }
 
@@ -99,6 +101,7 @@ fn list<R: Read, W: Write>(
         boundary: &first[..end],
         store: &mut [0u8; 65536],
         held: turns::fresh(),
+        line: Line::new(),
     };
     listing.piece(&first[end + 1..])?;
     begun?;

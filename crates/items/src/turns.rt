@@ -2,7 +2,7 @@
 ghost use Rattle.std.specs.Prelude.{◌≡◌, ◌≤◌, ◌<◌, length};
 ghost use Rattle.framing.specs.Cutting.{item_length, store_after, link_limit};
 ghost use Rattle.items.specs.Lines.{line_after, number_after};
-ghost use Rattle.items.specs.Turns.{fresh_held, turn_of};
+ghost use Rattle.items.specs.Turns.{fresh_held, line_of_turn, turn_of};
 
 use crate::lines::{self, Line};
 use framing::Item;
@@ -14,11 +14,10 @@ pub(crate) struct Held {
     pub(crate) number: u64,
 }
 
-// What a turn answers: the bytes of the piece that were taken, the line, which is empty where there is none, and what is held.
-#[derive(Drop)]
+// What a turn answers: the bytes of the piece that were taken, and what is held.
+#[derive(Clone, Copy)]
 pub(crate) struct Turn {
     pub(crate) taken: usize,
-    pub(crate) line: Line,
     pub(crate) held: Held,
 }
 
@@ -31,15 +30,16 @@ pub(crate) fn fresh() -> Held
     }
 }
 
-// The line of what a call completed.
-fn item_line(number: u64, item: Item, store: &[u8]) -> Line
+// The line of what a call completed, which is empty where there is none.
+#[tactic(auto, unfolding(crate::specs::Lines::line_after))]
+fn item_line(line: &mut Line, number: u64, item: Item, store: &[u8])
     requires { item_length item ≤ length store.now }
-    ensures { result ≡ line_after number item store.now }
+    ensures { line.new ≡ line_after number item store.now }
 {
     match item {
-        Item::NotYet | Item::Empty => Line::new(),
-        Item::Message(length) => lines::message(number, &store[..length as usize]),
-        Item::TooLong => lines::too_long(number),
+        Item::NotYet | Item::Empty => line.clear(),
+        Item::Message(length) => lines::message(line, number, &store[..length as usize]),
+        Item::TooLong => lines::too_long(line, number),
     }
 }
 
@@ -54,23 +54,27 @@ fn next_number(number: u64, item: Item) -> u64
     }
 }
 
-// Cuts the piece, up to the end of one item, and gives its line. A call that the framing refuses takes nothing; the program makes none.
-pub(crate) fn next(boundary: &[u8], store: &mut [u8; 65536], piece: &[u8], held: Held) -> Turn
+// Cuts the piece, up to the end of one item, and writes its line. A call that the framing refuses takes nothing; the program makes none.
+pub(crate) fn next(
+    boundary: &[u8],
+    store: &mut [u8; 65536],
+    piece: &[u8],
+    held: Held,
+    line: &mut Line,
+) -> Turn
     requires { held.number < 18446744073709551615 }
     ensures within { result.taken ≤ length piece.now }
     ensures turned { result ≡ turn_of boundary.now store.old piece.now held }
+    ensures written { line.new ≡ line_of_turn boundary.now store.old piece.now held }
     ensures stored { store.new ≡ store_after link_limit boundary.now store.old piece.now held.cut.gathered held.cut.matched }
 {
     let Ok(said) = framing::gather(boundary, store, piece, held.cut) else {
-        return Turn {
-            taken: 0,
-            line: Line::new(),
-            held,
-        };
+        line.clear();
+        return Turn { taken: 0, held };
     };
+    item_line(line, held.number, said.item, store);
     Turn {
         taken: said.taken,
-        line: item_line(held.number, said.item, store),
         held: Held {
             cut: said.held,
             number: next_number(held.number, said.item),

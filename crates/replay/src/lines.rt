@@ -1,4 +1,4 @@
-// The lines that are printed.
+// The lines that are printed, each written to a lent line, which is emptied first.
 ghost use Rattle.std.specs.Prelude.{◌≡◌, ◌++◌, ◌+◌, ◌≤◌, length};
 ghost use Rattle.conduct.specs.Session.{state_number};
 ghost use Rattle.session.specs.Answers.{told_said};
@@ -28,57 +28,53 @@ fn put_event(line: &mut Line, call: u64, e: Event)
 }
 
 // A line for each event, in order.
-fn events(call: u64, events: Events) -> Line
+fn events(line: &mut Line, call: u64, events: Events)
     requires { events.count ≤ 40 }
-    ensures { result ≡ event_lines call (list_of events) }
+    ensures { line.new ≡ event_lines call (list_of events) }
 {
-    let mut line = Line::new();
+    line.clear();
     for event in &events.list[..events.count] {
-        put_event(&mut line, call, *event);
+        put_event(line, call, *event);
     }
-    line
 }
 
-fn refused(call: u64, refusal: u32) -> Line
-    ensures { result ≡ refused_line call refusal }
+fn refused(line: &mut Line, call: u64, refusal: u32)
+    ensures { line.new ≡ refused_line call refusal }
 {
-    let mut line = Line::new();
+    line.clear();
     line.put_number(call, SPACE);
     line.put(b"refused", SPACE);
     line.put_number(u64::from(refusal), LINE_END);
-    line
 }
 
 // What the next call of a run answers.
-pub(crate) fn answer(run: Run, told: Result<Accepted, Refusal>) -> Line
+pub(crate) fn answer(line: &mut Line, run: Run, told: Result<Accepted, Refusal>)
     requires { (told_said run.session told).events.count ≤ 40 }
-    ensures { result ≡ answer_lines run.call (told_said run.session told) }
+    ensures { line.new ≡ answer_lines run.call (told_said run.session told) }
 {
     match told {
-        Ok(accepted) => events(run.call, accepted.events),
-        Err(refusal) => refused(run.call, u32::from(refusal)),
+        Ok(accepted) => events(line, run.call, accepted.events),
+        Err(refusal) => refused(line, run.call, u32::from(refusal)),
     }
 }
 
 // A line of the script that stands for nothing.
-pub(crate) fn bad(number: u64) -> Line
-    ensures { result ≡ bad_line number }
+pub(crate) fn bad(line: &mut Line, number: u64)
+    ensures { line.new ≡ bad_line number }
 {
-    let mut line = Line::new();
+    line.clear();
     line.put(b"line", SPACE);
     line.put_number(number, SPACE);
     line.put(b"bad", LINE_END);
-    line
 }
 
 // A refused making.
-fn stop(refusal: u32) -> Line
-    ensures { result ≡ stop_line refusal }
+fn stop(line: &mut Line, refusal: u32)
+    ensures { line.new ≡ stop_line refusal }
 {
-    let mut line = Line::new();
+    line.clear();
     line.put(b"stop", SPACE);
     line.put_number(u64::from(refusal), LINE_END);
-    line
 }
 
 fn name(state: State) -> &'static [u8]
@@ -96,24 +92,23 @@ fn name(state: State) -> &'static [u8]
 }
 
 // The last line.
-fn end(session: Session) -> Line
-    ensures { result ≡ end_line session }
+fn end(line: &mut Line, session: Session)
+    ensures { line.new ≡ end_line session }
 {
-    let mut line = Line::new();
+    line.clear();
     line.put(b"end", SPACE);
     line.put(name(session.state), SPACE);
     line.put_number(session.pushes.count as u64, LINE_END);
-    line
 }
 
 // What is printed when the script has ended.
 #[tactic(auto, unfolding(crate::specs::Lines::last_line))]
-pub(crate) fn last(run: Run) -> Line
-    ensures { result ≡ last_line run }
+pub(crate) fn last(line: &mut Line, run: Run)
+    ensures { line.new ≡ last_line run }
 {
     match run.phase {
-        Phase::Settling => Line::new(),
-        Phase::Running => end(run.session),
-        Phase::Refused(refusal) => stop(refusal),
+        Phase::Settling => line.clear(),
+        Phase::Running => end(line, run.session),
+        Phase::Refused(refusal) => stop(line, refusal),
     }
 }

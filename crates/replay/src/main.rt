@@ -47,7 +47,8 @@ fn run_call<W: Write>(output: &mut Output<W>, run: Run, told: Result<Accepted, R
     requires { (told_said run.session told).events.count ≤ 40 }
     ensures { result ≡ after_call run (told_said run.session told) }
 {
-    output.write(lines::answer(run, told).as_bytes());
+    lines::answer(&mut output.line, run, told);
+    output.write();
     runs::after_call(run, told)
 }
 
@@ -70,7 +71,8 @@ fn run_line<W: Write>(output: &mut Output<W>, run: Run, line: Line, bytes: &[u8]
     match line {
         Line::Nothing => run,
         Line::Set(_) | Line::Bad => {
-            output.write(lines::bad(run.line).as_bytes());
+            lines::bad(&mut output.line, run.line);
+            output.write();
             run
         }
         Line::Ticks(count) => run_ticks(output, run, count),
@@ -171,17 +173,20 @@ struct Player<'a, W> {
 }
 
 impl<'a, W: Write> Player<'a, W> {
-    // Takes the lines that end in a piece. Each turn takes a byte or more, so that no piece uses up its turns.
+    // Takes the lines that end in a piece. Each turn takes a byte or more, so that no piece uses up its turns. What is held is large, and is
+    // written back once.
     fn piece(&mut self, piece: &[u8]) {
         let mut rest = piece;
+        let mut held = self.held;
         for _ in 0..piece.len() {
             if rest.is_empty() {
                 break;
             }
-            let turn = take_next(&mut self.output, self.store, rest, self.held);
-            self.held = turn.held;
+            let turn = take_next(&mut self.output, self.store, rest, held);
+            held = turn.held;
             rest = &rest[turn.taken..];
         }
+        self.held = held;
     }
 
     // Reads to the end of the script. Whether the lines of a piece could be written is known behind it: where a write failed nothing more is
@@ -205,7 +210,8 @@ impl<'a, W: Write> Player<'a, W> {
     fn finish(&mut self) {
         let run = take_rest(&mut self.output, self.store, self.held);
         let ended = runs::ready(run, Line::Bad);
-        self.output.write(lines::last(ended).as_bytes());
+        lines::last(&mut self.output.line, ended);
+        self.output.write();
     }
 }
 

@@ -26,8 +26,9 @@ pub fn class(table: &[u8; 256], b: u8) -> u8
     table[b as usize]
 }
 
-// A byte that passes the test stands at the place.
-pub fn has<P: Fn(u8) -> bool>(s: &[u8], at: usize, test: P) -> bool
+// A byte that passes the test stands at the place. As `one` and `ends` it asks that the test may be called, so the three are for this crate alone: a
+// public function asks for nothing.
+pub(crate) fn has<P: Fn(u8) -> bool>(s: &[u8], at: usize, test: P) -> bool
     requires { P.IsAlwaysCallable test }
     ensures { HasIs (P.post test) s.now at result }
 {
@@ -35,7 +36,7 @@ pub fn has<P: Fn(u8) -> bool>(s: &[u8], at: usize, test: P) -> bool
 }
 
 // Reads one byte that passes the test.
-pub fn one<P: Fn(u8) -> bool>(s: &[u8], at: usize, test: P) -> Result<usize, Refusal>
+pub(crate) fn one<P: Fn(u8) -> bool>(s: &[u8], at: usize, test: P) -> Result<usize, Refusal>
     requires { P.IsAlwaysCallable test }
     ensures { OneIs (P.post test) s.now at (said result) }
 {
@@ -47,7 +48,7 @@ pub fn one<P: Fn(u8) -> bool>(s: &[u8], at: usize, test: P) -> Result<usize, Ref
 }
 
 // The place behind the bytes that pass the test from a place on.
-pub fn ends<P: Fn(u8) -> bool>(s: &[u8], at: usize, test: P) -> usize
+pub(crate) fn ends<P: Fn(u8) -> bool>(s: &[u8], at: usize, test: P) -> usize
     requires { P.IsAlwaysCallable test }
     ensures { EndsIs (P.post test) s.now at result }
 {

@@ -1,5 +1,5 @@
 // The leaves of the reader: bytes and their classes, words and names (document 01, "The restricted XML").
-// Each function is given the message, mostly the table of classes or a test, and a place, and has an answer for every place and every table.
+// Each function is given the message, mostly the table of classes, and a place, and has an answer for every place and every table.
 // The three stay parameters, and no struct's fields: it would be no plainer, since the crates above read further and could add no methods to it.
 #![tactic(auto)]
 

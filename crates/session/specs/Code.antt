@@ -1,5 +1,5 @@
 -- Promise: the code's answers are the history: what calls of a record answer, call by call, is what its session does. (proofs/Histories, Rows, Making, Following)
--- By their contracts the public calls answer `told`, so what is said here of `told` is said of the code. Assumes nothing.
+-- By their contracts what the public calls answer says (`told_said`) `told`, so what is said here of `told` is said of the code. Assumes nothing.
 use Rattle.std.specs.Prelude.{◌≡◌, Bool, true, not, List, [], ◌∷◌, ◌++◌, map, ◌⊎◌, ℕ, ◌≤◌, ◌<◌, leb, ltb, eqb, length, take, drop}
 use Rattle.conduct.specs.declared.Call.{Call}
 use Rattle.conduct.specs.declared.Call.TheVariants as calls
@@ -106,7 +106,7 @@ ShortListRefused = (places : ℕ) (d : Record) (c : Call) → eqb (told places d
 abbrev pub InconsistentRefused : Type 0
 InconsistentRefused = (places : ℕ) (d : Record) (c : Call) → 40 ≤ places → eqb (told places d c).refusal 27 ≡ not (consistent d)
 
--- a refused call hands back the record as it was, whatever is in it, and no event, and leaves a lent list as it was; each record of the code has 32 rows
+-- a refused call leaves the record as it was, whatever is in it, says no event, and leaves a lent list as it was; each record of the code has 32 rows
 abbrev pub RefusedReturnsTheOld : Type 0
 RefusedReturnsTheOld =
     (places : ℕ) (d : Record) (c : Call) → length d.pushes.rows ≡ 32 → ((told places d c).refusal ≡ 0 → ⊥)

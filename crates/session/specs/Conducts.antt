@@ -1,5 +1,5 @@
 -- Promise: the two conducts (document 02, M-110), said of the records that the calls take and hand back, and of the bytes of a message. (proofs/Conducts)
--- By their contracts the public calls answer `told`, so what is said here of `told` is said of the code. Assumes nothing.
+-- By their contracts what the public calls answer says (`told_said`) `told`, so what is said here of `told` is said of the code. Assumes nothing.
 use Rattle.std.specs.Prelude.{◌≡◌, Bool, true, false, not, ◌&&◌, List, [], ◌∷◌, ℕ}
 use Rattle.message.specs.Class.{class_of}
 use Rattle.message.specs.Limits.{link_limits}

@@ -1,6 +1,6 @@
 -- Promise: two messages at once (document 02, M-113), said of the records that the calls take and hand back, whatever is in them, of event lists of any lengths,
 -- and of the bytes of messages. (proofs/Swapped, Twice)
--- By their contracts the public calls answer `told`, so what is said here of `told` is said of the code. Assumes nothing.
+-- By their contracts what the public calls answer says (`told_said`) `told`, so what is said here of `told` is said of the code. Assumes nothing.
 use Rattle.std.specs.Prelude.{◌≡◌, true, false, List, [], ◌∷◌, ◌++◌, ◌⊎◌, ℕ, ◌≤◌, Some}
 use Rattle.conduct.specs.declared.State.TheVariants.{Up}
 use Rattle.conduct.specs.declared.Event.{Event}

@@ -1,6 +1,6 @@
-// The provider's session (document 01, "The session"): each call takes a session by value and hands back the one that follows it. What the calls do is said in
-// crates/conduct; specs/ says how a session lies in the record below. The record is public, so that a host can keep it where it likes: whatever is in it, every
-// call has an answer.
+// The provider's session (document 01, "The session"): each call takes a session by value and hands back the one that follows it, or refuses, and then the caller
+// has its own as it was. What the calls do is said in crates/conduct; specs/ says how a session lies in the record below. The record is public, so that a host can
+// keep it where it likes: whatever is in it, every call has an answer.
 #![tactic(auto)]
 
 mod calls;

@@ -5,21 +5,24 @@ ghost use Rattle.message.specs.Reading.{has, one, said};
 ghost use Rattle.message.specs.Characters.{joined, two_at, three_at, last_two_at, four_at, long_at};
 ghost use Rattle.scan.specs.Answers.{character_said};
 
+use crate::one_if;
 use message::Refusal;
-use scan::{Character, bytes};
+use scan::Character;
 
 // A byte from `low` to `high` stands at the place.
+#[tactic(auto, unfolding(message::specs::Reading::has))]
 pub fn between_at(s: &[u8], at: usize, low: u8, high: u8) -> bool
     ensures { result ≡ has (between low high) s.now at }
 {
-    bytes::has(s, at, |b| low <= b && b <= high)
+    s.get(at).is_some_and(|b| low <= *b && *b <= high)
 }
 
 // Reads a byte from `low` to `high`.
+#[tactic(auto, using(message::proofs::Laws::has_lt), unfolding(message::specs::Reading::one))]
 pub fn between(s: &[u8], at: usize, low: u8, high: u8) -> Result<usize, Refusal>
     ensures { said result ≡ one (between low high) s.now at }
 {
-    bytes::one(s, at, |b| low <= b && b <= high)
+    one_if(between_at(s, at, low, high), at)
 }
 
 // The number so far, and six bits more.

@@ -27,7 +27,10 @@ pub fn bang(s: &[u8], table: &[u8; 256], at: usize) -> Result<usize, Refusal>
         return refused(Reason::LeftOut, at);
     }
     let inside = words::word(s, from, b"--")?;
-    runs::comment(s, table, inside)
+    // A Result handed on as it came is copied by one move of 16 bytes out of two stores of 8, for which the processor waits; a place alone is moved as it
+    // was stored. With `runs::comment` as the last line a message of short comments took 1.4 to 1.5 times as long.
+    let end = runs::comment(s, table, inside)?;
+    Ok(end)
 }
 
 // Reads white space and comments, up to what is neither.

@@ -4,6 +4,7 @@ ghost use Rattle.message.specs.Reading.{byte_at, has, one, said};
 ghost use Rattle.message.specs.Characters.{legal, digit_of, is_digit, digits_at, closes, numbered_at, stands_at, predefined_at, reference_at};
 ghost use Rattle.scan.specs.Answers.{character_said};
 
+use crate::one_if;
 use message::{Reason, Refusal};
 use scan::{Character, bytes, refused, words};
 
@@ -56,17 +57,19 @@ fn digits(s: &[u8], at: usize, base: u32) -> Result<Character, Refusal>
 }
 
 // Reads a digit of the base.
+#[tactic(auto, using(message::proofs::Laws::has_lt), unfolding(message::specs::Reading::one))]
 fn one_digit(s: &[u8], at: usize, base: u32) -> Result<usize, Refusal>
     ensures { said result ≡ one (is_digit base) s.now at }
 {
-    bytes::one(s, at, |b| digit(b, base).is_some())
+    one_if(digit_at(s, at, base).is_some(), at)
 }
 
 // Reads the `;` behind the number of a character.
+#[tactic(auto, unfolding(message::specs::Reading::one, message::specs::Reading::has))]
 fn close(s: &[u8], at: usize, code: u32) -> Result<usize, Refusal>
     ensures { said result ≡ one (closes code) s.now at }
 {
-    bytes::one(s, at, |b| b == b';' && legal(code))
+    one_if(bytes::is_at(s, at, b';') && legal(code), at)
 }
 
 // Reads the digits of a number and the `;` behind it.
@@ -122,8 +125,12 @@ pub fn reference(s: &[u8], at: usize) -> Result<Character, Refusal>
     if !bytes::is_at(s, i, b'#') {
         return predefined(s, i);
     }
-    if bytes::is_at(s, i + 1, b'x') {
-        return numbered(s, i + 2, 16);
-    }
-    numbered(s, i + 1, 10)
+    let (from, base) = if bytes::is_at(s, i + 1, b'x') {
+        (i + 2, 16)
+    } else {
+        (i + 1, 10)
+    };
+    // Taken apart and made anew, as in `bang` of markup: handed on as it came, numbers were read slower.
+    let Character { end, code } = numbered(s, from, base)?;
+    Ok(Character { end, code })
 }

@@ -13,7 +13,14 @@ use scan::{Character, bytes, refused};
 fn plain_note(table: &[u8; 256], b: u8) -> bool
     ensures { result ≡ is_plain_note (class_in table.now) b }
 {
-    (bytes::TEXT <= bytes::class(table, b) || matches!(b, b'<' | b'&')) && b != b'-'
+    b != b'-' && (bytes::TEXT <= bytes::class(table, b) || matches!(b, b'<' | b'&'))
+}
+
+#[tactic(auto, unfolding(message::specs::Reading::has))]
+fn plain_note_at(s: &[u8], table: &[u8; 256], at: usize) -> bool
+    ensures { result ≡ has (is_plain_note (class_in table.now)) s.now at }
+{
+    s.get(at).is_some_and(|b| plain_note(table, *b))
 }
 
 // The place behind the plain text from a place on.
@@ -23,11 +30,16 @@ pub fn plain_end(s: &[u8], table: &[u8; 256], at: usize) -> usize
     bytes::run_end(s, table, at, bytes::PLAIN)
 }
 
-// The same in a comment.
+// The same in a comment, by a loop of its own, since the one that scan has for any test is for that crate alone.
+#[tactic(auto, using(message::proofs::Laws::has_lt, message::proofs::Laws::ends_more, message::proofs::Laws::ends_stop))]
 pub fn plain_note_end(s: &[u8], table: &[u8; 256], at: usize) -> usize
     ensures { result ≡ ends (is_plain_note (class_in table.now)) s.now at }
 {
-    bytes::ends(s, at, |b| plain_note(table, b))
+    let mut i = at;
+    while plain_note_at(s, table, i) {
+        i += 1;
+    }
+    i
 }
 
 // Reads a reference, or a character of more than one byte. It is compiled into its callers, and `reference` is not: with `special` as a call of its own, text in

@@ -14,6 +14,9 @@ use Rattle.texts.specs.Fields.{field, decimal, put_in}
 pub new_once : {r r' : List ℕ} → r ≡ [] → r' ≡ [] → r ≡ r'
 new_once = one_answer
 
+pub clear_once : {left left' : List ℕ} → left ≡ [] → left' ≡ [] → left ≡ left'
+clear_once = one_answer
+
 pub put_once : (N : ℕ) (self text : List ℕ) (behind : ℕ) {left left' : List ℕ} → left ≡ put_in N self (field text behind)
     → left' ≡ put_in N self (field text behind) → left ≡ left'
 put_once N self text behind = one_answer

@@ -41,6 +41,13 @@ impl<const N: usize> Line<N> {
         }
     }
 
+    // A line that is written again and again is emptied in between: a new one costs a pass over all its room.
+    pub fn clear(&mut self)
+        ensures { self.new ≡ [] }
+    {
+        self.length = 0;
+    }
+
     // Writes a text and the byte behind it. Where they have no room nothing is written.
     pub fn put(&mut self, text: &[u8], behind: u8)
         ensures { self.new ≡ put_in N self.old (field text.now behind) }
@@ -95,7 +102,7 @@ fn write_digits(number: u64, out: &mut [u8])
 }
 
 // Whether a text begins with a word: `starts_with` under the definition's words, which callers' proofs cite.
-#[tactic(auto, using(crate::proofs::Beginnings::starts_same))]
+#[tactic(auto, using(crate::proofs::Beginnings::starts_same, crate::proofs::Beginnings::too_short_lem, crate::proofs::Beginnings::starts_whole))]
 pub fn begins(text: &[u8], word: &[u8]) -> bool
     ensures { result ≡ same_bytes (take (length word.now) text.now) word.now }
 {

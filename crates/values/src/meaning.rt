@@ -22,10 +22,11 @@ fn line_end(s: &[u8], at: usize) -> usize
 }
 
 // Literal tab, line feed or carriage return stands at the place.
+#[tactic(auto, unfolding(message::specs::Reading::has))]
 fn break_at(s: &[u8], at: usize) -> bool
     ensures { result ≡ has is_break s.now at }
 {
-    bytes::has(s, at, |b| matches!(b, b'\t' | b'\n' | b'\r'))
+    matches!(s.get(at), Some(b'\t' | b'\n' | b'\r'))
 }
 
 // A character as it stands or as a reference names it.

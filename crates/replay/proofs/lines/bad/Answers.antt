@@ -9,6 +9,6 @@ use Rattle.replay.proofs.lines.bad.Goals as goal
 pub returns : goal.returns
 unfolding bad_line
 returns c =
-    let word = holds_text 4096 (holds_nothing c.new-line.ensures) space 4 (codes "line") c.put.ensures (omega arith) (omega arith) in
+    let word = holds_text 4096 (holds_nothing c.clear.ensures) space 4 (codes "line") c.put.ensures (omega arith) (omega arith) in
     let number = holds_number 4096 word space c.args.number (omega arith) c.put_number.ensures (omega arith) in
     (holds_text 4096 number line_end 3 (codes "bad") c.put-2.ensures (omega arith) (omega arith)).is ∙ simp append_assoc

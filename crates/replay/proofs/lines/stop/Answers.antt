@@ -9,5 +9,5 @@ use Rattle.replay.proofs.lines.stop.Goals as goal
 pub returns : goal.returns
 unfolding stop_line
 returns c =
-    let word = holds_text 4096 (holds_nothing c.new-line.ensures) space 4 (codes "stop") c.put.ensures (omega arith) (omega arith) in
+    let word = holds_text 4096 (holds_nothing c.clear.ensures) space 4 (codes "stop") c.put.ensures (omega arith) (omega arith) in
     (holds_number 4096 word line_end c.args.refusal (omega arith) (rw c.from.ensures at c.put_number.ensures) (omega arith)).is

@@ -20,7 +20,7 @@ pub returns-in_err-checked_mul : goal.returns-in_err-checked_mul
 returns-in_err-checked_mul c = rw c.from_residual.ensures (counted_large c.loop-i.invariant.1 _ _ (attribute_goes _ _ _ _ c.loop-i-test.true (character_is c.attribute_letter.ensures c.in-Ok.is)) c.if-c-lt48.false c.if-c-gt57.false (omega arith))
 
 pub returns-in_err-number : goal.returns-in_err-number
-returns-in_err-number c = rw c.from_residual-in_err-number.ensures (counted_large c.loop-i.invariant.1 _ _ (attribute_goes _ _ _ _ c.loop-i-test.true (character_is c.attribute_letter.ensures c.in-Ok.is)) c.if-c-lt48.false c.if-c-gt57.false (omega arith))
+returns-in_err-number c = rw c.from_residual-in_err-number.ensures (counted_large c.loop-i.invariant.1 _ _ (attribute_goes _ _ _ _ c.loop-i-test.true (character_is c.attribute_letter.ensures c.in-Ok.is)) c.if-c-lt48.false c.if-c-gt57.false (grind arith))
 
 pub loop-i-smaller : goal.loop-i-smaller
 loop-i-smaller c = omega (arith, attribute_letter_on _ _ _ (character_is c.attribute_letter.ensures c.in-Ok.is))
@@ -28,7 +28,7 @@ loop-i-smaller c = omega (arith, attribute_letter_on _ _ _ (character_is c.attri
 pub loop-i-preserved : goal.loop-i-preserved
 loop-i-preserved c =
     let read = character_is c.attribute_letter.ensures c.in-Ok.is in
-    let next : c.loop-i.number * 10 + (c.in-Ok.c.code - 48) ≡ c.in_ok-number.number = omega arith in
+    let next : c.loop-i.number * 10 + (c.in-Ok.c.code - 48) ≡ c.in_ok-number.number = grind arith in
     let small : c.in_ok-number.number ≤ 4294967295 = omega arith in
     (small, rw (← next) (counted_digit c.loop-i.invariant.1 _ _ (attribute_goes _ _ _ _ c.loop-i-test.true read) c.if-c-lt48.false c.if-c-gt57.false (omega arith) (attribute_letter_on _ _ _ read)))
 
